@@ -1,0 +1,39 @@
+-- Lists of bytes, and loops that fold over them. Assumes nothing.
+use mathlib.Core.Path.{_≡_, refl}
+use mathlib.Core.List.{List, [], _∷_, _++_, foldl}
+use Prim.Native.Nat.{ℕ, zero, suc, _+_, _≤_, _<_}
+use native.Mathlib.Numerals.{add-one}
+use native.Mathlib.Omega.{arith}
+use lib.ListN.{length, take, drop, getD, drop-of-length-le}
+use lib.Seq.{drop-cons}
+use Rattle.base.specs.Bytes.{AllBelow}
+
+-- ---- numbers below a bound
+pub below-elements : (n : ℕ) (s : List ℕ) → ((i : ℕ) → i < length s → getD s i 0 < n) → AllBelow n s
+unfolding AllBelow
+below-elements n [] h = tt
+below-elements n (x ∷ s) h = (h 0 (omega arith), below-elements n s (λ i l. h (suc i) (omega arith)))
+
+pub below-append : (n : ℕ) (a b : List ℕ) → AllBelow n a → AllBelow n b → AllBelow n (a ++ b)
+unfolding AllBelow
+below-append n [] b h k = k
+below-append n (x ∷ a) b h k = (h .0, below-append n a b (h .1) k)
+
+pub below-take : (n k : ℕ) (s : List ℕ) → AllBelow n s → AllBelow n (take k s)
+unfolding AllBelow
+below-take n zero s h = tt
+below-take n (suc k) [] h = tt
+below-take n (suc k) (x ∷ s) h = (h .0, below-take n k s (h .1))
+
+pub below-drop : (n k : ℕ) (s : List ℕ) → AllBelow n s → AllBelow n (drop k s)
+unfolding AllBelow
+below-drop n zero s h = h
+below-drop n (suc k) [] h = tt
+below-drop n (suc k) (x ∷ s) h = below-drop n k s (h .1)
+
+-- ---- a loop that folds over a slice: a turn of it, and its end
+pub fold-turn : (f : ℕ → ℕ → ℕ) (s : List ℕ) (x i : ℕ) → i < length s → foldl f x (drop i s) ≡ foldl f (f x (getD s i 0)) (drop (i + 1) s)
+fold-turn f s x i h = rw (add-one, drop-cons s i 0)
+
+pub fold-end : (f : ℕ → ℕ → ℕ) (s : List ℕ) (x i : ℕ) → length s ≤ i → foldl f x (drop i s) ≡ x
+fold-end f s x i h = rw (drop-of-length-le s h)
