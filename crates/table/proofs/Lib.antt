@@ -1,0 +1,4 @@
+pub mod Arms
+pub mod Apart
+pub mod Lookup
+pub mod Numbers

@@ -1,0 +1,37 @@
+-- `table::Register::row` meets its contract: 02A5h is computed; any other register is an ADI number's address, or no row begins there.
+-- Assumes nothing.
+use borrow.Author.Needs.{needs}
+use Rattle.table.specs.Table.{rows}
+use Rattle.table.specs.Address.{address, firstRegister}
+use Rattle.table.specs.Find.{firstRow, rowFrom}
+use Rattle.table.proofs.Arms.{at-key}
+use Rattle.table.proofs.Lookup.{from-none, from-adi}
+use Rattle.table.proofs.labels.Register.row.Statement.{statement}
+use Rattle.table.proofs.labels.Register.row.Tie as tie
+
+returns : tie.Need-returns
+unfolding rowFrom rows firstRow firstRegister address
+returns c = search (at-key rowFrom)
+
+adi-requires : tie.Need-adi-requires
+adi-requires c κs = search needs
+
+enum-known-adi : tie.Need-enum-known-adi
+enum-known-adi c = search needs
+
+enum-told : tie.Need-enum-told
+enum-told c = search needs
+
+returns-2 : tie.Need-returns-2
+returns-2 c = search from-none
+
+row-requires : tie.Need-row-requires
+row-requires c κs = search needs
+
+returns-3 : tie.Need-returns-3
+returns-3 c = search from-adi
+
+pub row-spec : {M : Type 1} → statement M
+row-spec =
+    tie.close
+    (tie.spec returns adi-requires enum-known-adi enum-told returns-2 row-requires returns-3)

@@ -1,0 +1,117 @@
+// From a label on the line to its row.
+use crate::labels::AdiNumber;
+use crate::labels::ENumber;
+use crate::labels::FirstOf;
+use crate::labels::Found;
+use crate::labels::Register;
+use crate::labels::Row;
+use crate::names::*;
+ghost use mathlib.Core.Path.{_≡_};
+ghost use Rattle.table.specs.Find.{rowOfE, rowOfAdi, rowFrom, rowOfSpan};
+
+impl ENumber {
+    // The row with this E number.
+    pub fn row(self) -> Found
+        ensures { λ r. ⌜ r ≡ rowOfE (self .0) ⌝ }
+    {
+        let e = self.0;
+        match e {
+            0x0008 => Found::At(Row(P_NOM)),
+            0x0009 => Found::At(Row(U_NOM)),
+            0x000F => Found::At(Row(F_NOM)),
+            0x0010 => Found::At(Row(N_NOM)),
+            0x0015 => Found::At(Row(COS_PHI)),
+            0x0005 => Found::At(Row(I_MAGN)),
+            0x0018 => Found::At(Row(I_LIMT)),
+            0x001D => Found::At(Row(ACCEL)),
+            0x001C => Found::At(Row(RETARD)),
+            0x0030 => Found::At(Row(MODE_SETTING)),
+            0x000D => Found::At(Row(FR_MIN)),
+            0x000B => Found::At(Row(FR_MAX)),
+            0x0039 => Found::At(Row(R_FIX1)),
+            0x0052 => Found::At(Row(REG_AMP)),
+            0x00A8 => Found::At(Row(SI_BAUD)),
+            0x00AA => Found::At(Row(SI_PROT)),
+            0x00A9 => Found::At(Row(SI_ADR)),
+            0x00AB => Found::At(Row(SIO_TOT)),
+            0x001E => Found::At(Row(SETPOINT)),
+            0x0029 => Found::At(Row(MODE)),
+            0x00AD => Found::At(Row(SCMD)),
+            0x00E8 => Found::At(Row(INV_ST_ACK)),
+            0x00E9 => Found::At(Row(INV_ST)),
+            0x00AC => Found::At(Row(SIO_ERR)),
+            0x00B6 => Found::At(Row(FRQ_ACT)),
+            _ => Found::NoRow,
+        }
+    }
+}
+
+impl AdiNumber {
+    // The row with this ADI number.
+    pub fn row(self) -> Found
+        ensures { λ r. ⌜ r ≡ rowOfAdi (self .0) ⌝ }
+    {
+        let n = self.0;
+        match n {
+            301 => Found::At(Row(P_NOM)),
+            302 => Found::At(Row(U_NOM)),
+            303 => Found::At(Row(F_NOM)),
+            304 => Found::At(Row(N_NOM)),
+            305 => Found::At(Row(COS_PHI)),
+            306 => Found::At(Row(I_MAGN)),
+            307 => Found::At(Row(I_LIMT)),
+            308 => Found::At(Row(ACCEL)),
+            309 => Found::At(Row(RETARD)),
+            310 => Found::At(Row(MODE_SETTING)),
+            311 => Found::At(Row(FR_MIN)),
+            312 => Found::At(Row(FR_MAX)),
+            313 => Found::At(Row(R_FIX1)),
+            314 => Found::At(Row(REG_AMP)),
+            315 => Found::At(Row(SI_BAUD)),
+            316 => Found::At(Row(SI_PROT)),
+            317 => Found::At(Row(SI_ADR)),
+            318 => Found::At(Row(SIO_TOT)),
+            319 => Found::At(Row(MB_ADR)),
+            320 => Found::At(Row(SPD_SCL_NUM)),
+            321 => Found::At(Row(SPD_SCL_DEN)),
+            322 => Found::At(Row(SETPOINT)),
+            34 => Found::At(Row(MODE)),
+            35 => Found::At(Row(SCMD)),
+            38 => Found::At(Row(INV_ST_ACK)),
+            323 => Found::At(Row(SIO_ERR)),
+            125 => Found::At(Row(FRQ_ACT)),
+            120 => Found::At(Row(I_RMS)),
+            39 => Found::At(Row(OP_TIME)),
+            _ => Found::NoRow,
+        }
+    }
+}
+
+impl Register {
+    // The row whose first register this is: by the address rule, or Inv St at 02A5h.
+    pub fn row(self) -> Found
+        ensures { λ r. ⌜ r ≡ rowFrom (self .0) ⌝ }
+    {
+        let at = self.0;
+        if at == 0x02A5 {
+            return Found::At(Row(INV_ST));
+        }
+        let FirstOf::Adi(adi) = self.adi() else {
+            return Found::NoRow;
+        };
+        adi.row()
+    }
+
+    // The row that starts at this register and is `count` registers wide: "start at its first, count its width".
+    pub fn span(self, count: u16) -> Found
+        ensures { λ r. ⌜ r ≡ rowOfSpan (self .0) count ⌝ }
+    {
+        let Found::At(row) = self.row() else {
+            return Found::NoRow;
+        };
+        if row.width() == count {
+            return Found::At(row);
+        }
+        Found::NoRow
+    }
+}
