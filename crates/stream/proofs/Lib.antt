@@ -1,0 +1,10 @@
+pub mod Lists
+pub mod Automaton
+pub mod Reading
+pub mod Once
+pub mod Call
+pub mod Scanned
+pub mod Pending
+pub mod Computed
+pub mod Theorem
+pub mod Example

@@ -1,0 +1,9 @@
+pub mod Format
+pub mod Reading
+pub mod Automaton
+pub mod Call
+pub mod Scanned
+pub mod Once
+pub mod Computed
+pub mod Theorem
+pub mod Example
