@@ -14,6 +14,11 @@ unfolding AllBelow
 below-elements n [] h = tt
 below-elements n (x ∷ s) h = (h 0 (omega arith), below-elements n s (λ i l. h (suc i) (omega arith)))
 
+pub below-wider : (m n : ℕ) (s : List ℕ) → m ≤ n → AllBelow m s → AllBelow n s
+unfolding AllBelow
+below-wider m n [] h k = tt
+below-wider m n (x ∷ s) h k = (omega arith, below-wider m n s h (k .1))
+
 pub below-append : (n : ℕ) (a b : List ℕ) → AllBelow n a → AllBelow n b → AllBelow n (a ++ b)
 unfolding AllBelow
 below-append n [] b h k = k
