@@ -89,7 +89,7 @@ impl AdiNumber {
 
 impl Register {
     // The row whose first register this is: by the address rule, or Inv St at 02A5h.
-    pub fn row(self) -> Found
+    fn row(self) -> Found
         ensures { λ r. ⌜ r ≡ rowFrom (self .0) ⌝ }
     {
         let at = self.0;
