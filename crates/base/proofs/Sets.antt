@@ -5,7 +5,7 @@ use Prim.Native.Nat.{ℕ, suc, _+_, _-_, _≤_, _<_}
 use native.Mathlib.Nat.{zero-add, add-zero, add-suc, suc-add}
 use native.Mathlib.Omega.{arith}
 use lib.ListN.{length, take, drop, set, length-set, length-append, length-take, length-drop, take-append-drop}
-use lib.Seq.{sets, sets-eq, set-append-left, length-take-le, take-at}
+use lib.Seq.{sets, sets-eq, set-append-left, set-out, length-take-le, take-at}
 use borrow.Rule.Slice.PartMut.{midOf, postOf, putMid}
 use Rattle.base.specs.Buffers.{front}
 
@@ -40,6 +40,11 @@ sets-append [] ws l i = ap (λ (n : ℕ). sets l n ws) (sym (add-zero i))
 sets-append (v ∷ vs) ws l i =
     sets-append vs ws (set l i v) (suc i)
     ∙ ap (λ (n : ℕ). sets (sets (set l i v) (suc i) vs) n ws) (suc-add i (length vs) ∙ sym (add-suc i (length vs)))
+
+-- stores past the end change nothing
+pub sets-out : (vs l : List ℕ) (i : ℕ) → length l ≤ i → sets l i vs ≡ l
+sets-out [] l i h = refl
+sets-out (v ∷ vs) l i h = rw (set-out l i v h) (sets-out vs l (suc i) (omega arith))
 
 -- what was stored from the start on
 pub take-sets : (vs l : List ℕ) → length vs ≤ length l → take (length vs) (sets l 0 vs) ≡ vs

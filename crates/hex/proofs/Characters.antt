@@ -1,0 +1,59 @@
+-- What a character is worth, by where it stands among 0-9 and A-F. Assumes nothing.
+use mathlib.Core.Path.{_≡_, refl}
+use mathlib.Core.Bool.{Bool, true, false}
+use Prim.Native.Nat.{ℕ, _+_, _-_, _%_, _<_, _≤_}
+use native.Mathlib.Nat.{mod-eq-of-lt}
+use native.Mathlib.Omega.{arith}
+use borrow.Author.Tests.{le-leb, lt-leb, leb-true, lt-ltb, le-ltb}
+use lib.Dec.{leb}
+use Rattle.base.specs.Choice.{pick, both, either}
+use Rattle.base.proofs.Tests.{both-out}
+use Rattle.hex.specs.declared.Digit.{Digit}
+use Rattle.hex.specs.declared.Digit.the-variants.{Value, NotHex}
+use Rattle.hex.specs.Hex.{isNumeral, isCapital, isHex, digitValue, digitOf}
+
+-- ---- by the code's tests
+pub value-under : (c : ℕ) → c < 0x30 → NotHex ≡ digitValue c
+unfolding digitValue
+value-under c h = simp (lt-leb 0x30 c h, lt-leb 0x41 c (omega arith))
+
+pub value-numeral : (c : ℕ) → 0x30 ≤ c → c ≤ 0x39 → Value (c - 0x30) ≡ digitValue c
+unfolding digitValue
+value-numeral c h k = simp (le-leb 0x30 c h, le-leb c 0x39 k)
+
+pub value-between : (c : ℕ) → 0x39 < c → c < 0x41 → NotHex ≡ digitValue c
+unfolding digitValue
+value-between c h k = simp (le-leb 0x30 c (omega arith), lt-leb c 0x39 h, lt-leb 0x41 c k)
+
+pub value-capital : (c : ℕ) → 0x41 ≤ c → c ≤ 0x46 → Value (c - 0x41 + 10) ≡ digitValue c
+unfolding digitValue
+value-capital c h k = simp (le-leb 0x30 c (omega arith), lt-leb c 0x39 (omega arith), le-leb 0x41 c h, le-leb c 0x46 k)
+
+pub value-over : (c : ℕ) → 0x46 < c → NotHex ≡ digitValue c
+unfolding digitValue
+value-over c h = simp (le-leb 0x30 c (omega arith), lt-leb c 0x39 (omega arith), le-leb 0x41 c (omega arith), lt-leb c 0x46 h)
+
+-- ---- what holds of a numeral's worth, of a capital's and of no digit holds of every character
+pub by-kind : (P : Bool → Digit → Type 0) (c : ℕ) → (0x30 ≤ c → c ≤ 0x39 → P true (Value (c - 0x30)))
+    → (0x41 ≤ c → c ≤ 0x46 → P true (Value (c - 0x41 + 10))) → P false NotHex → P (isHex c) (digitValue c)
+unfolding isHex digitValue
+by-kind P c numeral capital other = go (isNumeral c) (isCapital c) refl refl
+  where
+    go : (a b : Bool) → isNumeral c ≡ a → isCapital c ≡ b → P (either a b) (pick a (Value (c - 0x30)) (pick b (Value (c - 0x41 + 10)) NotHex))
+    go true b p q = let r = both-out (leb 0x30 c) (leb c 0x39) p in numeral (leb-true 0x30 c (r .0)) (leb-true c 0x39 (r .1))
+    go false true p q = let r = both-out (leb 0x41 c) (leb c 0x46) q in capital (leb-true 0x41 c (r .0)) (leb-true c 0x46 (r .1))
+    go false false p q = other
+
+-- ---- the digit of a number
+pub digit-numeral : (n : ℕ) → n < 10 → digitOf n ≡ 0x30 + n
+unfolding digitOf
+digit-numeral n h = let m : n % 16 ≡ n = omega arith in simp (m, lt-ltb n 10 h)
+
+pub digit-capital : (n : ℕ) → 10 ≤ n → n < 16 → digitOf n ≡ 0x41 + (n - 10)
+unfolding digitOf
+digit-capital n h k = let m : n % 16 ≡ n = omega arith in simp (m, le-ltb n 10 h)
+
+-- only its lowest four bits count
+pub digit-rest : (n : ℕ) → digitOf (n % 16) ≡ digitOf n
+unfolding digitOf
+digit-rest n = let m : n % 16 % 16 ≡ n % 16 = omega arith in simp m

@@ -1,0 +1,3 @@
+pub mod Characters
+pub mod RoundTrip
+pub mod Laws
