@@ -1,5 +1,5 @@
 -- Lists of bytes, and loops that fold over them. Assumes nothing.
-use mathlib.Core.Path.{_≡_}
+use mathlib.Core.Path.{_≡_, refl, sym, _∙_}
 use mathlib.Core.List.{List, [], _∷_, _++_, foldl}
 use Prim.Native.Nat.{ℕ, zero, suc, _+_, _≤_, _<_}
 use native.Mathlib.Numerals.{add-one}
@@ -18,6 +18,12 @@ pub below-wider : (m n : ℕ) (s : List ℕ) → m ≤ n → AllBelow m s → Al
 unfolding AllBelow
 below-wider m n [] h k = tt
 below-wider m n (x ∷ s) h k = (omega arith, below-wider m n s h (k .1))
+
+pub below-element : (n : ℕ) (s : List ℕ) (i : ℕ) → AllBelow n s → i < length s → getD s i 0 < n
+unfolding AllBelow
+below-element n [] i h l = absurd (omega arith)
+below-element n (x ∷ s) zero h l = h .0
+below-element n (x ∷ s) (suc i) h l = below-element n s i (h .1) (omega arith)
 
 pub below-append : (n : ℕ) (a b : List ℕ) → AllBelow n a → AllBelow n b → AllBelow n (a ++ b)
 unfolding AllBelow
@@ -42,3 +48,17 @@ fold-turn f s x i h = rw (add-one, drop-cons s i 0)
 
 pub fold-end : (f : ℕ → ℕ → ℕ) (s : List ℕ) (x i : ℕ) → length s ≤ i → foldl f x (drop i s) ≡ x
 fold-end f s x i h = rw (drop-of-length-le s h)
+
+-- the loop's invariant: folding in what is left gives the whole
+pub record Folding (f : ℕ → ℕ → ℕ) (start : ℕ) (s : List ℕ) (x i : ℕ) : Type 0 where
+  pub passed : i ≤ length s
+  pub left : foldl f x (drop i s) ≡ foldl f start s
+
+pub fold-starts : (f : ℕ → ℕ → ℕ) (start : ℕ) (s : List ℕ) → Folding f start s start 0
+fold-starts f start s = record { passed = omega arith; left = refl }
+
+pub fold-again : (f : ℕ → ℕ → ℕ) (start : ℕ) (s : List ℕ) (x y i : ℕ) → Folding f start s x i → i < length s → y ≡ f x (getD s i 0) → Folding f start s y (i + 1)
+fold-again f start s x y i h k e = record { passed = omega arith; left = rw e (sym (fold-turn f s x i k) ∙ h .left) }
+
+pub fold-done : (f : ℕ → ℕ → ℕ) (start : ℕ) (s : List ℕ) (x i : ℕ) → Folding f start s x i → length s ≤ i → x ≡ foldl f start s
+fold-done f start s x i h k = sym (fold-end f s x i k) ∙ h .left

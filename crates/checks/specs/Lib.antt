@@ -1,0 +1,4 @@
+pub mod Bcc
+pub mod Lrc
+pub mod Crc
+pub mod Examples

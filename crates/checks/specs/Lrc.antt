@@ -1,0 +1,25 @@
+-- The longitudinal check of Modbus ASCII. Assumes nothing.
+use mathlib.Core.Bool.{Bool}
+use mathlib.Core.List.{List, [], _∷_, foldl}
+use Prim.Native.Nat.{ℕ, _+_, _-_, _%_}
+use lib.Dec.{eqb}
+
+abbrev pub addByte : ℕ → ℕ → ℕ
+addByte x b = (x + b) % 256
+
+-- the bytes added modulo 256
+unfoldable pub sumOf : List ℕ → ℕ
+sumOf s = foldl addByte 0 s
+
+-- the plain sum of the bytes, whose rest modulo 256 this is (proofs/Laws, `sum-total`)
+unfoldable pub totalOf : List ℕ → ℕ
+totalOf [] = 0
+totalOf (b ∷ s) = b + totalOf s
+
+-- "all k bytes, LRC last, add to 0 modulo 256"
+unfoldable pub addsToZero : List ℕ → Bool
+addsToZero s = eqb (sumOf s) 0
+
+-- the byte that, put last, makes them do so
+unfoldable pub lrcOf : List ℕ → ℕ
+lrcOf s = (256 - sumOf s) % 256
