@@ -104,8 +104,8 @@ crc-append a b = foldl-append crcByte 0xFFFF a b
 bit-below : (x : ℕ) → x < 2 ^ 16 → crcBit x < 2 ^ 16
 unfolding crcBit
 bit-below x h =
-    let half : x / 2 ^ 1 < 2 ^ 16 = lt-of-le-of-lt (div-le-self x 2) h in
-    pick-both (λ (n : ℕ). n < 2 ^ 16) (eqb (bitAnd x 1) 1) (λ e. xor-lt 16 (x / 2 ^ 1) 0xA001 half (lit< tt)) (λ e. half)
+    let half : x / 2 < 2 ^ 16 = lt-of-le-of-lt (div-le-self x 2) h in
+    pick-both (λ (n : ℕ). n < 2 ^ 16) (eqb (bitAnd x 1) 1) (λ e. xor-lt 16 (x / 2) 0xA001 half (lit< tt)) (λ e. half)
 
 bits-below : (n x : ℕ) → x < 2 ^ 16 → crcBits n x < 2 ^ 16
 bits-below zero x h = h

@@ -2,7 +2,7 @@
 -- exclusive-or A001h". Assumes nothing.
 use mathlib.Core.Bool.{Bool}
 use mathlib.Core.List.{List, [], _∷_, foldl}
-use Prim.Native.Nat.{ℕ, zero, suc, _+_, _-_, _*_, _/_, _%_, _^_}
+use Prim.Native.Nat.{ℕ, zero, suc, _+_, _-_, _*_, _/_, _%_}
 use lib.Bits.{bitAnd, bitXor}
 use lib.Dec.{leb, eqb}
 use lib.ListN.{length, take, getD}
@@ -10,7 +10,7 @@ use Rattle.base.specs.Choice.{pick, both}
 
 -- "shift right by one and, if a 1 fell out, exclusive-or A001h"
 unfoldable pub crcBit : ℕ → ℕ
-crcBit x = pick (eqb (bitAnd x 1) 1) (bitXor (x / 2 ^ 1) 0xA001) (x / 2 ^ 1)
+crcBit x = pick (eqb (bitAnd x 1) 1) (bitXor (x / 2) 0xA001) (x / 2)
 
 abbrev pub crcBits : ℕ → ℕ → ℕ
 crcBits zero x = x

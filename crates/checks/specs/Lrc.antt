@@ -11,7 +11,7 @@ addByte x b = (x + b) % 256
 unfoldable pub sumOf : List ℕ → ℕ
 sumOf s = foldl addByte 0 s
 
--- the plain sum of the bytes, whose rest modulo 256 this is (proofs/Laws, `sum-total`)
+-- the bytes added: `sumOf` is the rest of this modulo 256 (the law `sum-total`)
 unfoldable pub totalOf : List ℕ → ℕ
 totalOf [] = 0
 totalOf (b ∷ s) = b + totalOf s

@@ -1,7 +1,7 @@
 // The three checks of the line: BCC of NFO serial, LRC of Modbus ASCII, CRC-16 of Modbus RTU.
 // `bcc`, `lrc` and `crc` make them; `adds_to_zero` and `crc_holds` test them.
 ghost use mathlib.Core.Path.{_≡_};
-ghost use Prim.Native.Nat.{_+_, _*_, _%_};
+ghost use Prim.Native.Nat.{_+_, _*_};
 ghost use Rattle.checks.specs.Bcc.{bccOf};
 ghost use Rattle.checks.specs.Lrc.{sumOf, addsToZero, lrcOf};
 ghost use Rattle.checks.specs.Crc.{crcBit, crcByte, crcOf, crcHolds};

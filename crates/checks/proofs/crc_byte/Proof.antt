@@ -24,7 +24,7 @@ loop-less : tie.Need-loop-less Inv-loop μ-loop
 loop-less c = search needs
 
 loop-again : tie.Need-loop-again Inv-loop μ-loop
-loop-again c = search (steps-again, needs)
+loop-again c = search steps-again
 
 returns : tie.Need-returns Inv-loop μ-loop
 returns c = search steps-done
