@@ -1,6 +1,5 @@
 -- `crc_frames::line::line_crc` meets its contract: at each `return` the tests that led there, and what `is_dash`, `decode` and `crc` ensure,
 -- say what the line is. Assumes nothing.
-use mathlib.Core.Path.{refl}
 use borrow.Author.Needs.{needs}
 use Rattle.crc_frames.proofs.Laws.{answer-dash, answer-none, answer-many, answer-spoilt, answer-frame}
 use Rattle.crc_frames.proofs.line.line_crc.Statement.{statement}
