@@ -3,11 +3,11 @@ use mathlib.Core.Path.{_≡_, refl}
 use mathlib.Core.List.{List, [], _∷_, map}
 use Prim.Native.Nat.{ℕ}
 use lib.ListN.{getD, take}
-use lib.IntN.{pos, negℤ}
+use lib.IntN.{ℤ, pos, negℤ}
 use Rattle.table.specs.Names.{P-Nom, U-Nom, f-Nom, N-Nom, cosφ, I-magn, I-limt, Accel, Retard, Mode, Fr-Min, Fr-Max, R-fix1, RegAmp, SiBaud, SiProt, SiAdr, SioTot, MbAdr, SpdScl-num, SpdScl-den, Setpoint, MODE, SCMD, Inv-St-ack, Inv-St, SioErr, FrqAct, I-rms, OpTime}
 use Rattle.table.specs.declared.lines.Line.{Line}
 use Rattle.table.specs.declared.lines.Allowed.{Allowed}
-use Rattle.table.specs.declared.lines.Allowed.the-variants.{Between, Two, Three, Four, BelowLimt, AboveMagn, ByMode, Nothing}
+use Rattle.table.specs.declared.lines.Allowed.the-variants.{Between, OneOf, BelowLimt, AboveMagn, ByMode, Nothing}
 use Rattle.table.specs.declared.lines.Class.{Class}
 use Rattle.table.specs.declared.lines.Class.the-variants.{Init, Run, Read}
 use Rattle.table.specs.declared.lines.Start.{Start}
@@ -24,24 +24,20 @@ pub data Place : Type 0 where
   ADI : ℕ → Place
   register : ℕ → Place
 
--- Allowed, where numbers stand in it: `lo..hi`, `−m..m`, `a, b`, `a, −a`, `a, b, c` and `a, b, c, d`
+-- Allowed, where numbers stand in it: `lo..hi`, `−m..m`, and a list of up to four numbers, of which the code repeats the last
 abbrev pub between : ℕ → ℕ → Allowed
 between lo hi = Between (pos lo) (pos hi)
 
 abbrev pub about-0 : ℕ → Allowed
 about-0 m = Between (negℤ (pos m)) (pos m)
 
-abbrev pub two : ℕ → ℕ → Allowed
-two a b = Two (pos a) (pos b)
-
-abbrev pub plus-minus : ℕ → Allowed
-plus-minus a = Two (pos a) (negℤ (pos a))
-
-abbrev pub three : ℕ → ℕ → ℕ → Allowed
-three a b c = Three (pos a) (pos b) (pos c)
-
-abbrev pub four : ℕ → ℕ → ℕ → ℕ → Allowed
-four a b c d = Four (pos a) (pos b) (pos c) (pos d)
+abbrev pub these : List ℤ → Allowed
+these [] = Nothing
+these (a ∷ []) = OneOf a a a a
+these (a ∷ b ∷ []) = OneOf a b b b
+these (a ∷ b ∷ c ∷ []) = OneOf a b c c
+these (a ∷ b ∷ c ∷ d ∷ []) = OneOf a b c d
+these (a ∷ b ∷ c ∷ d ∷ e ∷ more) = Nothing
 
 -- a line: its name, its labels, and the rest
 pub record Entry : Type 0 where
@@ -71,17 +67,17 @@ rows =
     ∷ row Fr-Min (E 0x000D) (ADI 311) 1 (between 0 1500) Run (Word 0)
     ∷ row Fr-Max (E 0x000B) (ADI 312) 1 (between 0 1500) Run (Word 500)
     ∷ row R-fix1 (E 0x0039) (ADI 313) 1 (about-0 20000) Run (Word 0)
-    ∷ row RegAmp (E 0x0052) (ADI 314) 1 (plus-minus 1) Run (Word 1)
-    ∷ row SiBaud (E 0x00A8) (ADI 315) 1 (four 16 32 64 128) Run (Word 128)
-    ∷ row SiProt (E 0x00AA) (ADI 316) 1 (two 0 1) Run (Word 0)
+    ∷ row RegAmp (E 0x0052) (ADI 314) 1 (these (pos 1 ∷ negℤ (pos 1) ∷ [])) Run (Word 1)
+    ∷ row SiBaud (E 0x00A8) (ADI 315) 1 (these (pos 16 ∷ pos 32 ∷ pos 64 ∷ pos 128 ∷ [])) Run (Word 128)
+    ∷ row SiProt (E 0x00AA) (ADI 316) 1 (these (pos 0 ∷ pos 1 ∷ [])) Run (Word 0)
     ∷ row SiAdr (E 0x00A9) (ADI 317) 1 (between 0 95) Run (Word 1)
     ∷ row SioTot (E 0x00AB) (ADI 318) 1 (between 0 250) Run (Word 0)
     ∷ row MbAdr no-E (ADI 319) 1 (between 1 247) Run (Word 1)
     ∷ row SpdScl-num no-E (ADI 320) 2 (between 1 1000000) Run (Word 1)
     ∷ row SpdScl-den no-E (ADI 321) 2 (between 1 1000000) Run (Word 1)
     ∷ row Setpoint (E 0x001E) (ADI 322) 1 ByMode Run (Word 0)
-    ∷ row MODE (E 0x0029) (ADI 34) 1 (three 1 2 3) Run (Word 1)
-    ∷ row SCMD (E 0x00AD) (ADI 35) 1 (three 0 129 257) Run (Word 0)
+    ∷ row MODE (E 0x0029) (ADI 34) 1 (these (pos 1 ∷ pos 2 ∷ pos 3 ∷ [])) Run (Word 1)
+    ∷ row SCMD (E 0x00AD) (ADI 35) 1 (these (pos 0 ∷ pos 129 ∷ pos 257 ∷ [])) Run (Word 0)
     ∷ row Inv-St-ack (E 0x00E8) (ADI 38) 1 Nothing Read NoWord
     ∷ row Inv-St (E 0x00E9) (register 0x02A5) 1 Nothing Read NoWord
     ∷ row SioErr (E 0x00AC) (ADI 323) 1 Nothing Read (Word 0)

@@ -5,12 +5,10 @@ use crate::lines::Class;
 use crate::lines::Start;
 use crate::lines::line_of;
 ghost use mathlib.Core.Path.{_≡_};
+ghost use mathlib.Core.List.{[], _∷_};
 ghost use Prim.Native.Nat.{_+_, _<_, _≤_};
-ghost use mathlib.Core.Bool.{Bool};
-ghost use lib.Signed.{leZ, ltZ};
-ghost use Rattle.base.specs.Choice.{both, either};
 ghost use Rattle.table.specs.Table.{lineAt};
-ghost use Rattle.table.specs.Allowed.{eqZ, within, twos, numberOf, belowLimt, aboveMagn, setpointAllows, allows, allowedAt};
+ghost use Rattle.table.specs.Allowed.{within, member, twos, numberOf, belowLimt, aboveMagn, setpointAllows, allows, allowedAt};
 
 // What the allowed numbers of I-magn, I-limt and Setpoint depend on: the words of I-magn, I-limt and Mode.
 pub struct Bounds {
@@ -46,26 +44,21 @@ impl Row {
         start
     }
 
-    // Whether the number that the word stands for is one that the row allows.
+    // Whether the row allows the number that a word stands for. A word that is wider than the row stands for none.
     pub fn allows(self, word: u32, by: Bounds) -> bool
         ensures { λ r. ⌜ r ≡ allowedAt (self .0) by word ⌝ }
     {
         let l = line_of(self.0);
         let width = l.0;
         let rule = l.1;
-        let v = number(width, word);
-        allowed_by(rule, v, by)
+        if width == 2 {
+            return allowed_by(rule, signed(word, 0x80000000), by);
+        }
+        if word < 65536 {
+            return allowed_by(rule, signed(word, 32768), by);
+        }
+        false
     }
-}
-
-// The number that a word stands for, two's complement: the low 16 bits, or all 32 where the row has two registers.
-fn number(width: u16, word: u32) -> i32
-    ensures { λ r. ⌜ r ≡ numberOf width word ⌝ }
-{
-    if width == 2 {
-        return signed(word, 0x80000000);
-    }
-    signed(word % 65536, 32768)
 }
 
 // Two's complement: the words from `half` on stand for the numbers below 0.
@@ -80,14 +73,19 @@ fn signed(word: u32, half: u32) -> i32
     -1 - (below as i32)
 }
 
+// The number of a 16-bit row's word.
+fn number(word: u32) -> i32
+    ensures { λ r. ⌜ r ≡ numberOf word ⌝ }
+{
+    signed(word % 65536, 32768)
+}
+
 fn allowed_by(rule: Allowed, v: i32, by: Bounds) -> bool
     ensures { λ r. ⌜ r ≡ allows rule by v ⌝ }
 {
     match rule {
         Allowed::Between(lo, hi) => between(lo, hi, v),
-        Allowed::Two(a, b) => one_of_two(v, a, b),
-        Allowed::Three(a, b, c) => one_of_three(v, a, b, c),
-        Allowed::Four(a, b, c, d) => one_of_four(v, a, b, c, d),
+        Allowed::OneOf(a, b, c, d) => one_of(v, a, b, c, d),
         Allowed::BelowLimt => below_limt(v, by.limt),
         Allowed::AboveMagn(top) => above_magn(v, by.magn, top),
         Allowed::ByMode => setpoint(v, by.mode),
@@ -95,69 +93,38 @@ fn allowed_by(rule: Allowed, v: i32, by: Bounds) -> bool
     }
 }
 
-// The tests of signed numbers. What is above them speaks of numbers alone.
-fn at_most(a: i32, b: i32) -> bool
-    ensures { λ r. ⌜ r ≡ leZ a b ⌝ }
-{
-    a <= b
-}
-
-fn less(a: i32, b: i32) -> bool
-    ensures { λ r. ⌜ r ≡ ltZ a b ⌝ }
-{
-    a < b
-}
-
-fn same(a: i32, b: i32) -> bool
-    ensures { λ r. ⌜ r ≡ eqZ a b ⌝ }
-{
-    a == b
-}
-
 // lo..hi
 fn between(lo: i32, hi: i32, v: i32) -> bool
     ensures { λ r. ⌜ r ≡ within lo hi v ⌝ }
 {
-    if at_most(lo, v) {
-        return at_most(v, hi);
+    if lo <= v {
+        return v <= hi;
     }
     false
 }
 
-fn one_of_two(v: i32, a: i32, b: i32) -> bool
-    ensures { λ r. ⌜ r ≡ either (eqZ v a) (eqZ v b) ⌝ }
+fn one_of(v: i32, a: i32, b: i32, c: i32, d: i32) -> bool
+    ensures { λ r. ⌜ r ≡ member v (a ∷ b ∷ c ∷ d ∷ []) ⌝ }
 {
-    if same(v, a) {
+    if v == a {
         return true;
     }
-    same(v, b)
-}
-
-fn one_of_three(v: i32, a: i32, b: i32, c: i32) -> bool
-    ensures { λ r. ⌜ r ≡ either (eqZ v a) (either (eqZ v b) (eqZ v c)) ⌝ }
-{
-    if same(v, a) {
+    if v == b {
         return true;
     }
-    one_of_two(v, b, c)
-}
-
-fn one_of_four(v: i32, a: i32, b: i32, c: i32, d: i32) -> bool
-    ensures { λ r. ⌜ r ≡ either (eqZ v a) (either (eqZ v b) (either (eqZ v c) (eqZ v d))) ⌝ }
-{
-    if same(v, a) {
+    if v == c {
         return true;
     }
-    one_of_three(v, b, c, d)
+    v == d
 }
 
 // 0..I-limt−1
 fn below_limt(v: i32, limt: u32) -> bool
     ensures { λ r. ⌜ r ≡ belowLimt limt v ⌝ }
 {
-    let top = number(1, limt);
-    if at_most(0, v) {
-        return less(v, top);
+    let top = number(limt);
+    if 0 <= v {
+        return v < top;
     }
     false
 }
@@ -166,9 +133,9 @@ fn below_limt(v: i32, limt: u32) -> bool
 fn above_magn(v: i32, magn: u32, top: i32) -> bool
     ensures { λ r. ⌜ r ≡ aboveMagn magn top v ⌝ }
 {
-    let bottom = number(1, magn);
-    if less(bottom, v) {
-        return at_most(v, top);
+    let bottom = number(magn);
+    if bottom < v {
+        return v <= top;
     }
     false
 }

@@ -4,10 +4,8 @@ use Allowed::AboveMagn;
 use Allowed::BelowLimt;
 use Allowed::Between;
 use Allowed::ByMode;
-use Allowed::Four;
 use Allowed::Nothing;
-use Allowed::Three;
-use Allowed::Two;
+use Allowed::OneOf;
 use Class::Init;
 use Class::Read;
 use Class::Run;
@@ -26,9 +24,8 @@ pub enum Class {
 // What the column Allowed says. `Nothing` is `-`.
 pub enum Allowed {
     Between(i32, i32),
-    Two(i32, i32),
-    Three(i32, i32, i32),
-    Four(i32, i32, i32, i32),
+    // One of up to four numbers; the last stands again where there are fewer.
+    OneOf(i32, i32, i32, i32),
     // 0..I-limt−1
     BelowLimt,
     // I-magn+1..3000
@@ -65,17 +62,17 @@ pub fn line_of(row: usize) -> Line
         FR_MIN => Line(1, Between(0, 1500), Run, Word(0)),
         FR_MAX => Line(1, Between(0, 1500), Run, Word(500)),
         R_FIX1 => Line(1, Between(-20000, 20000), Run, Word(0)),
-        REG_AMP => Line(1, Two(1, -1), Run, Word(1)),
-        SI_BAUD => Line(1, Four(16, 32, 64, 128), Run, Word(128)),
-        SI_PROT => Line(1, Two(0, 1), Run, Word(0)),
+        REG_AMP => Line(1, OneOf(1, -1, -1, -1), Run, Word(1)),
+        SI_BAUD => Line(1, OneOf(16, 32, 64, 128), Run, Word(128)),
+        SI_PROT => Line(1, OneOf(0, 1, 1, 1), Run, Word(0)),
         SI_ADR => Line(1, Between(0, 95), Run, Word(1)),
         SIO_TOT => Line(1, Between(0, 250), Run, Word(0)),
         MB_ADR => Line(1, Between(1, 247), Run, Word(1)),
         SPD_SCL_NUM => Line(2, Between(1, 1000000), Run, Word(1)),
         SPD_SCL_DEN => Line(2, Between(1, 1000000), Run, Word(1)),
         SETPOINT => Line(1, ByMode, Run, Word(0)),
-        MODE => Line(1, Three(1, 2, 3), Run, Word(1)),
-        SCMD => Line(1, Three(0, 129, 257), Run, Word(0)),
+        MODE => Line(1, OneOf(1, 2, 3, 3), Run, Word(1)),
+        SCMD => Line(1, OneOf(0, 129, 257, 257), Run, Word(0)),
         INV_ST_ACK => Line(1, Nothing, Read, NoWord),
         INV_ST => Line(1, Nothing, Read, NoWord),
         SIO_ERR => Line(1, Nothing, Read, Word(0)),

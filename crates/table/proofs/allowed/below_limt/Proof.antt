@@ -1,24 +1,17 @@
 -- `table::below_limt` meets its contract: the two tests of `belowLimt`. Assumes nothing.
 use borrow.Author.Needs.{needs}
-use Rattle.table.proofs.Numbers.{limt-yes, limt-no}
+use Rattle.table.proofs.Numbers.{limt-above, limt-below}
 use Rattle.table.proofs.allowed.below_limt.Statement.{statement}
 use Rattle.table.proofs.allowed.below_limt.Tie as tie
 
 number-requires : tie.Need-number-requires
 number-requires c κs = search needs
 
-at-most-requires : tie.Need-at-most-requires
-at-most-requires c κs = search needs
-
-less-requires : tie.Need-less-requires
-less-requires c κs = search needs
-
 returns : tie.Need-returns
-returns c = search limt-yes
+returns c = search limt-above
 
 returns-2 : tie.Need-returns-2
-returns-2 c = search limt-no
+returns-2 c = search limt-below
 
 pub below-limt-spec : {M : Type 1} → statement M
-below-limt-spec =
-    tie.close (tie.spec number-requires at-most-requires less-requires returns returns-2)
+below-limt-spec = tie.close (tie.spec number-requires returns returns-2)
