@@ -4,3 +4,4 @@ pub mod Address
 pub mod Find
 pub mod Unique
 pub mod Allowed
+pub mod Cases
