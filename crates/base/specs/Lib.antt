@@ -1,3 +1,4 @@
 pub mod Choice
 pub mod Bytes
 pub mod Buffers
+pub mod Order

@@ -1,0 +1,11 @@
+-- `drive::Plant::apply` meets its contract, row by row. Assumes nothing.
+use borrow.Author.Needs.{needs}
+use Rattle.base.proofs.Tests.{tests}
+use Rattle.drive.proofs.Laws.{applied-setting}
+use Rattle.drive.specs.Write.{applied}
+use Rattle.drive.proofs.plant.Plant.apply.Statement.{statement}
+use Rattle.drive.proofs.plant.Plant.apply.Tie as tie
+
+pub apply-spec : {M : Type 1} → statement M
+unfolding applied
+apply-spec = tie.close (tie.spec (λ c κs. search needs) (λ c. search applied-setting) (λ c. search tests) (λ c. search tests) (λ c. search tests) (λ c. search tests))

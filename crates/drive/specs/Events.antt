@@ -1,0 +1,36 @@
+-- Host events, and what a port's fault does to the plant. Assumes nothing.
+use mathlib.Core.Bool.{Bool, true, false}
+use Prim.Native.Nat.{ℕ}
+use lib.Dec.{eqb, leb}
+use lib.Bits.{bitOr, bitAnd}
+use Rattle.base.specs.Choice.{pick, both, either}
+use Rattle.drive.specs.declared.plant.Plant.{Plant}
+use Rattle.drive.specs.declared.events.Event.{Event}
+use Rattle.drive.specs.Plant.{withScmd, withDin1, withCauses}
+use Rattle.drive.specs.Flags.{only, allBut}
+use Rattle.drive.specs.Faults.{flagRaised}
+
+-- "Faults 1 to 13 and 16 to 23"
+unfoldable pub isFault : ℕ → Bool
+isFault n = either (both (leb 1 n) (leb n 13)) (both (leb 16 n) (leb n 23))
+
+-- an event that names fault n; "12: host event number not allowed" changes nothing
+abbrev pub event : ℕ → Plant → Plant → Event
+event n after before = pick (isFault n) (record { plant = after; known = true }) (record { plant = before; known = false })
+
+-- "The host raises one (both set)": the cause and the flag
+unfoldable pub raised : ℕ → Plant → Event
+raised n p = event n (withCauses (bitOr (p .causes) (only n)) (flagRaised (only n) p)) p
+
+-- "or ends a cause (the flag stays)"
+unfoldable pub ended : ℕ → Plant → Event
+ended n p = event n (withCauses (bitAnd (p .causes) (allBut n)) p) p
+
+-- "bit 0 time-out, bit 1 parity fault .. Either one at MODE 3 also raises flag 14"
+unfoldable pub portFault : Plant → Plant
+portFault p = pick (eqb (p .mode) 3) (flagRaised (only 14) p) p
+
+-- "SCMD becomes 0 when DIN1 goes inactive"
+unfoldable pub withActive : Bool → Plant → Plant
+withActive true p = withDin1 1 p
+withActive false p = withScmd 0 (withDin1 0 p)

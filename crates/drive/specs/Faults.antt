@@ -1,0 +1,49 @@
+-- Running, Inv St, and the fault flags. Assumes nothing.
+use mathlib.Core.Bool.{Bool, not}
+use Prim.Native.Nat.{ℕ}
+use lib.Dec.{eqb}
+use lib.Bits.{bitOr, bitAnd}
+use Rattle.base.specs.Choice.{pick, both, either}
+use Rattle.drive.specs.declared.plant.Plant.{Plant}
+use Rattle.drive.specs.Plant.{withScmd, withFlags}
+use Rattle.drive.specs.Flags.{only, allBut, lowestOf}
+
+-- DIN1 is active
+unfoldable pub active : Plant → Bool
+active p = not (eqb (p .din1) 0)
+
+-- a fault flag stands, 14 included
+unfoldable pub flagStands : Plant → Bool
+flagStands p = not (eqb (p .flags) 0)
+
+-- "Running: MODE 2, DIN1 active, no fault flag; or MODE 3, SCMD not 0. Otherwise not."
+unfoldable pub runs : Plant → Bool
+runs p =
+    either (both (eqb (p .mode) 2) (both (active p) (not (flagStands p))))
+    (both (eqb (p .mode) 3) (not (eqb (p .scmd) 0)))
+
+-- "Inv St is the lowest flagged number, else 24 at MODE 1, 33/34 at MODE 2 and 37/38 at MODE 3, standing/running"; at a MODE that no routine makes, 24
+unfoldable pub statusOf : Plant → ℕ
+statusOf p =
+    pick (flagStands p) (lowestOf (p .flags))
+    (pick (eqb (p .mode) 2) (pick (runs p) 34 33) (pick (eqb (p .mode) 3) (pick (runs p) 38 37) 24))
+
+-- "SCMD becomes 0 when .. a fault flag is raised"
+unfoldable pub flagRaised : ℕ → Plant → Plant
+flagRaised mask p = withScmd 0 (withFlags (bitOr (p .flags) mask) p)
+
+-- "clears flags whose cause has ended, but not 14": what stays is flagged, and its cause stands or it is 14
+unfoldable pub acknowledged : Plant → Plant
+acknowledged p = withFlags (bitAnd (p .flags) (bitOr (p .causes) (only 14))) p
+
+-- "zeroes .. flag 14"
+unfoldable pub without14 : Plant → Plant
+without14 p = withFlags (bitAnd (p .flags) (allBut 14)) p
+
+-- "while 14 is the only flag"
+unfoldable pub only14 : Plant → Bool
+only14 p = eqb (p .flags) (only 14)
+
+-- "clears 14": the broadcast stop leaves SCMD 0
+unfoldable pub stopped : Plant → Plant
+stopped p = withScmd 0 (without14 p)

@@ -1,0 +1,6 @@
+pub mod Plant
+pub mod Flags
+pub mod Faults
+pub mod Events
+pub mod Read
+pub mod Write

@@ -1,0 +1,53 @@
+// The state, at start and after a restart.
+ghost use mathlib.Core.Path.{_≡_};
+ghost use Rattle.drive.specs.Plant.{started, restarted};
+
+// Rows 301 to 322: each row's word, two's complement, at its line in the table.
+pub struct Settings {
+    pub words: [u32; 22],
+}
+
+// Every bit pattern is a plant. `din1` is 0 where DIN1 is inactive; bit n of `causes` and `flags` belongs to fault n; `frq`, `rms` and `optime` are FrqAct,
+// I-rms and OpTime.
+pub struct Plant {
+    pub settings: Settings,
+    pub mode: u32,
+    pub scmd: u32,
+    pub din1: u32,
+    pub causes: u32,
+    pub flags: u32,
+    pub frq: u32,
+    pub rms: u32,
+    pub optime: u32,
+}
+
+impl Plant {
+    // A plant at start.
+    pub fn start() -> Plant
+        ensures { λ r. ⌜ r ≡ started ⌝ }
+    {
+        let words = table::start_words();
+        Plant {
+            settings: Settings { words },
+            mode: 1,
+            scmd: 0,
+            din1: 0,
+            causes: 0,
+            flags: 0,
+            frq: 0,
+            rms: 0,
+            optime: 0,
+        }
+    }
+
+    // The plant after a restart: MODE 1, SCMD 0, and the flags of the standing causes. The rest is kept.
+    pub fn restart(self) -> Plant
+        ensures { λ r. ⌜ r ≡ restarted self ⌝ }
+    {
+        let mut plant = self;
+        plant.mode = 1;
+        plant.scmd = 0;
+        plant.flags = self.causes;
+        plant
+    }
+}
