@@ -74,6 +74,17 @@ module _ (F : Format) (p : List ℕ) (b : ℕ) (s : List ℕ) where
   unfolding scanned
   scanned-drops w v a = ap seen (call-turn F 0 p b s false false false w v a) ∙ ap next (scanned-call F s _ _) ∙ next-further _
 
+  -- they are no message: the call goes on from what the automaton leaves pending
+  pub scanned-goes : F .formed (p ++ b ∷ []) ≡ false → scanned F p (b ∷ s) ≡ further 1 (scanned F (feed F 0 p b .pending) s)
+  unfolding feed
+  scanned-goes w = go (F .viable (p ++ b ∷ [])) (F .viable (b ∷ [])) refl refl
+    where
+      go : (v a : Bool) → F .viable (p ++ b ∷ []) ≡ v → F .viable (b ∷ []) ≡ a
+          → scanned F p (b ∷ s) ≡ further 1 (scanned F (turn (F .formed (p ++ b ∷ [])) (F .viable (p ++ b ∷ [])) (F .viable (b ∷ [])) 0 p b .pending) s)
+      go true a ev ea = rw (w, ev) (scanned-keeps w ev)
+      go false true ev ea = rw (w, ev, ea) (scanned-restarts w ev ea)
+      go false false ev ea = rw (w, ev, ea) (scanned-drops w ev ea)
+
 -- no byte comes
 pub scanned-end : (F : Format) (p : List ℕ) → scanned F p [] ≡ record { used = 0; messages = []; pending = p }
 unfolding scanned call

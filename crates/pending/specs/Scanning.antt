@@ -1,0 +1,40 @@
+-- A scan: bytes taken one by one into what is pending, for any protocol. Assumes nothing.
+use mathlib.Core.Path.{_≡_}
+use mathlib.Core.Bool.{Bool, true, false}
+use mathlib.Core.List.{List, [], _∷_, _++_}
+use Prim.Native.Nat.{ℕ, _+_}
+use Rattle.base.specs.Choice.{pick}
+use Rattle.stream.specs.Format.{Format}
+use Rattle.stream.specs.Automaton.{feed}
+use Rattle.stream.specs.Scanned.{Seen}
+use Rattle.pending.specs.declared.Pending.{Pending}
+use Rattle.pending.specs.declared.Scan.{Scan}
+use Rattle.pending.specs.Held.{held, Sized}
+
+-- what a protocol makes of one byte: whether it ends a message, and what is pending then. Where it ends one, the message's bytes are
+pub record Feeding : Type 0 where
+  pub ends : Pending → ℕ → Bool
+  pub next : Pending → ℕ → Pending
+
+-- "A stream call uses bytes up to the end of the first message taken, or all": n bytes were used before
+unfoldable pub scanFrom : Feeding → Pending → ℕ → List ℕ → Scan
+scanFrom G p n [] = record { pending = p; used = n; taken = false }
+scanFrom G p n (b ∷ s) =
+    pick (G .ends p b)
+    (record { pending = G .next p b; used = n + 1; taken = true })
+    (scanFrom G (G .next p b) (n + 1) s)
+
+-- a scan, and then one of the bytes z, unless a message was taken
+abbrev pub scanOn : Feeding → Scan → List ℕ → Scan
+scanOn G r z = pick (r .taken) r (scanFrom G (r .pending) (r .used) z)
+
+-- a scan as the reading sees it. What is held after a message is the message, and nothing is pending
+abbrev pub seenIn : Scan → Seen
+seenIn r = record { used = r .used; messages = pick (r .taken) (held (r .pending) ∷ []) []; pending = pick (r .taken) [] (held (r .pending)) }
+
+-- the feeding does what the reading of the format does, where a beginning is pending
+pub record Follows (F : Format) (G : Feeding) : Type 0 where
+  pub sized : (p : Pending) (b : ℕ) → Sized p → Sized (G .next p b)
+  pub formed : (p : Pending) (b : ℕ) → Sized p → F .viable (held p) ≡ true → G .ends p b ≡ F .formed (held p ++ b ∷ [])
+  pub message : (p : Pending) (b : ℕ) → Sized p → F .viable (held p) ≡ true → G .ends p b ≡ true → held (G .next p b) ≡ held p ++ b ∷ []
+  pub waits : (p : Pending) (b : ℕ) → Sized p → F .viable (held p) ≡ true → G .ends p b ≡ false → held (G .next p b) ≡ feed F 0 (held p) b .pending
