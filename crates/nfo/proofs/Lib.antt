@@ -4,3 +4,4 @@ pub mod Shape
 pub mod Narrow
 pub mod Lawful
 pub mod Step
+pub mod Turns

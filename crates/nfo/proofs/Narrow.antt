@@ -2,11 +2,10 @@
 use mathlib.Core.Path.{_≡_, refl, sym, ap, _∙_}
 use mathlib.Core.Logic.{⊎-elim}
 use mathlib.Core.Bool.{Bool, true, false, false≢true}
-use mathlib.Core.List.{List, [], _∷_, _++_, foldl}
+use mathlib.Core.List.{List, [], _∷_, _++_}
 use Prim.Native.Nat.{ℕ, _<_}
 use native.Mathlib.Omega.{arith}
 use borrow.Author.Tests.{eqb-true, leb-true, ltb-true}
-use lib.Bits.{bitXor, xor-lt}
 use lib.Dec.{eqb, ltb, leb}
 use lib.ListN.{length, getD, take, drop, length-drop}
 use lib.Seq.{take-append-le, drop-append-le, getD-at}
@@ -14,6 +13,7 @@ use Rattle.base.specs.Choice.{both}
 use Rattle.base.specs.Bytes.{AllBelow}
 use Rattle.base.proofs.Tests.{both-out, either-out}
 use Rattle.base.proofs.Lists.{below-append, below-take, below-drop}
+use Rattle.checks.proofs.Laws.{bcc-below}
 use Rattle.nfo.specs.Shape.{Kind, byte, text, any, fits, whole}
 use Rattle.nfo.specs.Message.{ADR, p, v, enquiry, select, bccIn, formed}
 use Rattle.nfo.proofs.Shape.{whole-length, whole-split}
@@ -40,14 +40,9 @@ whole-below (text ∷ ks) (x ∷ m) n e =
 whole-below (any ∷ ks) (x ∷ m) n e = absurd (false≢true n)
 
 -- ---- the BCC
-fold-below : (x : ℕ) (s : List ℕ) → x < 128 → AllBelow 128 s → foldl bitXor x s < 128
-unfolding AllBelow
-fold-below x [] h k = h
-fold-below x (y ∷ s) h k = fold-below (bitXor x y) s (xor-lt 7 x y h (k .0)) (k .1)
-
-bcc-below : (m : List ℕ) → AllBelow 128 m → bccIn m < 128
+bcc-in-below : (m : List ℕ) → AllBelow 128 m → bccIn m < 128
 unfolding bccIn
-bcc-below m h = fold-below 0 (take 11 (drop 3 m)) (omega arith) (below-take 128 11 (drop 3 m) (below-drop 128 3 m h))
+bcc-in-below m h = bcc-below 7 (take 11 (drop 3 m)) (below-take 128 11 (drop 3 m) (below-drop 128 3 m h))
 
 -- the BCC in a body and one byte is that in the body
 pub bcc-body : (m : List ℕ) (b : ℕ) → length m ≡ 14 → bccIn (m ++ b ∷ []) ≡ bccIn m
@@ -77,5 +72,5 @@ nfo-below m e = ⊎-elim
     (λ h. whole-below enquiry m refl h)
     (λ h. let r = select-split m h in
     let a : AllBelow 128 (r .0) = whole-below select-body (r .0) refl (r .1) in
-    rw (r .3) (below-append 128 (r .0) (bccIn (r .0) ∷ []) a (bcc-below (r .0) a, tt)))
+    rw (r .3) (below-append 128 (r .0) (bccIn (r .0) ∷ []) a (bcc-in-below (r .0) a, tt)))
     (either-out (whole enquiry m) (both (whole select m) (eqb (getD m 14 0) (bccIn m))) e)

@@ -1,3 +1,4 @@
 pub mod Shape
 pub mod Message
+pub mod Scan
 pub mod Cases

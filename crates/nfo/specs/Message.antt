@@ -1,12 +1,12 @@
 -- NFO serial (S2): what a well-formed message is, and what could still become one. Assumes nothing.
 use mathlib.Core.Bool.{Bool}
-use mathlib.Core.List.{List, [], _∷_, foldl}
+use mathlib.Core.List.{List, [], _∷_}
 use Prim.Native.Nat.{ℕ}
-use lib.Bits.{bitXor}
 use lib.Dec.{eqb}
 use lib.ListN.{getD, take, drop}
 use Rattle.base.specs.Choice.{both, either}
 use Rattle.stream.specs.Format.{Format}
+use Rattle.checks.specs.Bcc.{bccOf}
 use Rattle.nfo.specs.Shape.{Kind, byte, text, any, whole, part}
 
 -- "ADR is address + 32, so 20h to 7Fh for 0 to 95. p and v are any of 20h to 7Fh." BCC is a byte that the shape leaves free.
@@ -34,7 +34,7 @@ select = byte 0x04 ∷ ADR ∷ byte 0x02 ∷ p ∷ p ∷ p ∷ p ∷ p ∷ byte 
 
 -- "BCC is the exclusive-or of all from after 02 up to and with 03": places 3 to 13
 unfoldable pub bccIn : List ℕ → ℕ
-bccIn m = foldl bitXor 0 (take 11 (drop 3 m))
+bccIn m = bccOf (take 11 (drop 3 m))
 
 -- "A well-formed message has this shape and the right BCC"
 unfoldable pub formed : List ℕ → Bool

@@ -1,1 +1,5 @@
-// NFO serial: what a message is, as a format of the left-to-right reading. It has no code.
+// NFO serial: scanning the bytes that come for the first message, taking it apart, and writing REPLY, ACK and NAK.
+// What a message is stands in specs/, as a format of the left-to-right reading.
+mod scanning;
+
+pub use scanning::scan;

@@ -1,0 +1,54 @@
+-- What a scan makes of one byte. Only the count of the bytes pending, the byte at place 2 and the byte that comes are looked at, and at the
+-- end of a SELECT the BCC. Assumes nothing.
+use mathlib.Core.Bool.{Bool, true, false}
+use mathlib.Core.List.{List}
+use Prim.Native.Nat.{ℕ, suc}
+use lib.Dec.{eqb, ltb}
+use lib.ListN.{length, getD}
+use Rattle.base.specs.Choice.{pick, both}
+use Rattle.pending.specs.declared.Pending.{Pending}
+use Rattle.pending.specs.Held.{emptied, pushed, restarted}
+use Rattle.pending.specs.Scanning.{Feeding}
+use Rattle.nfo.specs.Shape.{Kind, any, fits}
+use Rattle.nfo.specs.Message.{enquiry, select, bccIn}
+use Rattle.nfo.specs.declared.scanning.Step.{Step}
+use Rattle.nfo.specs.declared.scanning.Step.the-variants.{Keeps, Ends, Checks, Spoils}
+
+-- what b does at place n of a shape, where the shape's last byte does this
+unfoldable pub stepIn : List Kind → Step → ℕ → ℕ → Step
+stepIn ks last n b = pick (both (ltb n (length ks)) (fits (getD ks n any) b)) (pick (eqb (suc n) (length ks)) last Keeps) Spoils
+
+-- what b does where n bytes are pending, the third of which is this. The byte at place 2 tells the shape: 02 stands there in a SELECT. It is
+-- b itself that comes to place 2, and before that the shapes do not differ
+unfoldable pub stepOf : ℕ → ℕ → ℕ → Step
+stepOf n third b = pick (eqb (pick (ltb 2 n) third b) 0x02) (stepIn select Checks n b) (stepIn enquiry Ends n b)
+
+-- a byte that spoils what is pending is looked at again, as a beginning of its own
+unfoldable pub again : Pending → ℕ → Pending
+again p b = pick (eqb b 0x04) (restarted p b) (emptied p)
+
+-- whether b ends a message, by what it does and by whether it is the right BCC
+abbrev pub endsBy : Step → Bool → Bool
+endsBy Keeps right = false
+endsBy Ends right = true
+endsBy Checks right = right
+endsBy Spoils right = false
+
+-- what is pending then
+abbrev pub nextBy : Step → Bool → Pending → ℕ → Pending
+nextBy Keeps right p b = pushed p b
+nextBy Ends right p b = pushed p b
+nextBy Checks right p b = pick right (pushed p b) (again p b)
+nextBy Spoils right p b = again p b
+
+abbrev pub stepAfter : Pending → ℕ → Step
+stepAfter p b = stepOf (p .len) (getD (p .bytes) 2 0) b
+
+unfoldable pub ends : Pending → ℕ → Bool
+ends p b = endsBy (stepAfter p b) (eqb b (bccIn (p .bytes)))
+
+unfoldable pub fed : Pending → ℕ → Pending
+fed p b = nextBy (stepAfter p b) (eqb b (bccIn (p .bytes))) p b
+
+abbrev pub feeding : Feeding
+feeding = record { ends = ends; next = fed }

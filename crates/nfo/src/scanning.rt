@@ -1,0 +1,178 @@
+// Scanning a scrap for the first message.
+use pending::Pending;
+use pending::Scan;
+use pending::push;
+use pending::restart;
+ghost use mathlib.Core.Path.{_≡_};
+ghost use Rattle.base.specs.Choice.{pick};
+ghost use Rattle.pending.specs.Scanning.{scanFrom};
+ghost use Rattle.nfo.specs.Shape.{text, fits};
+ghost use Rattle.nfo.specs.Message.{enquiry, select, bccIn};
+ghost use Rattle.nfo.specs.Scan.{stepIn, stepOf, again, ends, fed, feeding};
+
+// What a byte does to what is pending.
+pub enum Step {
+    // It goes on, and more is to come.
+    Keeps,
+    // It is the last of an ENQUIRY.
+    Ends,
+    // It stands where a SELECT has its BCC.
+    Checks,
+    // It does not go on.
+    Spoils,
+}
+
+// What is pending after a byte, and whether it is a message.
+struct Fed {
+    len: usize,
+    taken: bool,
+}
+
+// Scans for the first message: uses the bytes up to its end, or all. What is pending is taken for a beginning: of its bytes only the
+// one at place 2 is looked at again, and at the end of a SELECT those that the BCC is made of. Fifteen bytes or more are no beginning,
+// and the next byte drops them.
+pub fn scan(pending: Pending, bytes: &[u8]) -> Scan
+    ensures { λ r. ⌜ r ≡ scanFrom feeding pending 0 (now (bytes .entry)) ⌝ }
+{
+    let mut held = pending.bytes;
+    let mut n = pending.len;
+    let mut i: usize = 0;
+    while i < bytes.len() {
+        let f = feed(&mut held, n, bytes[i]);
+        n = f.len;
+        i += 1;
+        if f.taken {
+            return Scan {
+                pending: Pending {
+                    bytes: held,
+                    len: n,
+                },
+                used: i,
+                taken: true,
+            };
+        }
+    }
+    Scan {
+        pending: Pending {
+            bytes: held,
+            len: n,
+        },
+        used: i,
+        taken: false,
+    }
+}
+
+// One byte, where the first `n` of `held` are pending.
+fn feed(held: &mut [u8; 512], n: usize, b: u8) -> Fed
+    ensures taken { λ r. ⌜ r .taken ≡ ends (record { bytes = now (held .entry); len = n }) b ⌝ }
+    ensures lent { λ r. ⌜ record { bytes = now (held .exit); len = r .len } ≡ fed (record { bytes = now (held .entry); len = n }) b ⌝ }
+{
+    let s = next_step(n, held[2], b);
+    match s {
+        Step::Keeps => Fed {
+            len: push(held, n, b),
+            taken: false,
+        },
+        Step::Ends => Fed {
+            len: push(held, n, b),
+            taken: true,
+        },
+        Step::Checks => {
+            if b == bcc_in(held) {
+                return Fed {
+                    len: push(held, n, b),
+                    taken: true,
+                };
+            }
+            Fed {
+                len: begin(held, b),
+                taken: false,
+            }
+        }
+        Step::Spoils => Fed {
+            len: begin(held, b),
+            taken: false,
+        },
+    }
+}
+
+// A byte that spoils what is pending is looked at again, as a beginning of its own.
+fn begin(held: &mut [u8; 512], b: u8) -> usize
+    ensures { λ r. ⌜ record { bytes = now (held .exit); len = r } ≡ again (record { bytes = now (held .entry); len = 0 }) b ⌝ }
+{
+    if b == 0x04 {
+        return restart(held, b);
+    }
+    0
+}
+
+// The BCC of a SELECT whose other bytes are held.
+fn bcc_in(held: &[u8; 512]) -> u8
+    ensures { λ r. ⌜ r ≡ bccIn (now (held .entry)) ⌝ }
+{
+    let m = &held[..];
+    checks::bcc(&m[3..14])
+}
+
+// What `b` does at place `n`. The byte at place 2 tells the shape: 02 stands there in a SELECT.
+fn next_step(n: usize, third: u8, b: u8) -> Step
+    ensures { λ r. ⌜ r ≡ stepOf n third b ⌝ }
+{
+    if 2 < n {
+        if third == 0x02 {
+            return in_select(n, b);
+        }
+        return in_enquiry(n, b);
+    }
+    if b == 0x02 {
+        return in_select(n, b);
+    }
+    in_enquiry(n, b)
+}
+
+// place:    0  1   2       6 7
+// ENQUIRY:  04 ADR p p p p p 05
+fn in_enquiry(n: usize, b: u8) -> Step
+    ensures { λ r. ⌜ r ≡ stepIn enquiry Step.Ends n b ⌝ }
+{
+    match n {
+        0 => if_fits(b == 0x04, Step::Keeps),
+        1..=6 => if_fits(is_text(b), Step::Keeps),
+        7 => if_fits(b == 0x05, Step::Ends),
+        _ => Step::Spoils,
+    }
+}
+
+// place:   0  1   2  3       7 8  9    12 13 14
+// SELECT:  04 ADR 02 p p p p p 3D v v v v 03 BCC
+fn in_select(n: usize, b: u8) -> Step
+    ensures { λ r. ⌜ r ≡ stepIn select Step.Checks n b ⌝ }
+{
+    match n {
+        0 => if_fits(b == 0x04, Step::Keeps),
+        1 => if_fits(is_text(b), Step::Keeps),
+        2 => if_fits(b == 0x02, Step::Keeps),
+        3..=7 => if_fits(is_text(b), Step::Keeps),
+        8 => if_fits(b == 0x3D, Step::Keeps),
+        9..=12 => if_fits(is_text(b), Step::Keeps),
+        13 => if_fits(b == 0x03, Step::Keeps),
+        14 => Step::Checks,
+        _ => Step::Spoils,
+    }
+}
+
+fn if_fits(fits: bool, step: Step) -> Step
+    ensures { λ r. ⌜ r ≡ pick fits step Step.Spoils ⌝ }
+{
+    if fits { step } else { Step::Spoils }
+}
+
+// 20h to 7Fh
+fn is_text(b: u8) -> bool
+    ensures { λ r. ⌜ r ≡ fits text b ⌝ }
+{
+    if b < 0x20 {
+        return false;
+    }
+    b <= 0x7F
+}
