@@ -4,3 +4,4 @@ pub mod Faults
 pub mod Events
 pub mod Read
 pub mod Write
+pub mod Answer

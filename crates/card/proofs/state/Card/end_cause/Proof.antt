@@ -1,0 +1,18 @@
+-- `card::Card::end_cause` meets its contract: the event on the plant, lifted. Assumes nothing.
+use borrow.Author.Needs.{needs}
+use Rattle.card.specs.Events.{causeEnded}
+use Rattle.card.proofs.state.Card.end_cause.Statement.{statement}
+use Rattle.card.proofs.state.Card.end_cause.Tie as tie
+
+end-cause-requires : tie.Need-end-cause-requires
+end-cause-requires c κs = search needs
+
+told-requires : tie.Need-told-requires
+told-requires c κs = search needs
+
+returns : tie.Need-returns
+unfolding causeEnded
+returns c = cc
+
+pub end-cause-spec : {M : Type 1} → statement M
+end-cause-spec = tie.close (tie.spec end-cause-requires told-requires returns)

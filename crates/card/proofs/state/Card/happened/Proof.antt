@@ -1,0 +1,13 @@
+-- `card::Card::happened` meets its contract: the plant is put in place. Assumes nothing.
+use borrow.Author.Needs.{needs}
+use mathlib.Core.Path.{refl}
+use Rattle.card.specs.Events.{happened}
+use Rattle.card.proofs.state.Card.happened.Statement.{statement}
+use Rattle.card.proofs.state.Card.happened.Tie as tie
+
+returns : tie.Need-returns
+unfolding happened
+returns c = refl
+
+pub happened-spec : {M : Type 1} → statement M
+happened-spec = tie.close (tie.spec returns)

@@ -1,0 +1,12 @@
+// The card: a plant behind a port. It starts, restarts, is told of host events, and takes bytes from the line.
+//
+// Each routine takes the whole state and hands it back, with the outcome of document 01's table.
+mod events;
+mod outcome;
+mod state;
+
+pub use events::After;
+pub use outcome::Outcome;
+pub use state::Card;
+pub use state::Port;
+pub use state::Protocol;
