@@ -60,6 +60,22 @@ pub either-right : (a b : Bool) → b ≡ true → either a b ≡ true
 either-right true b e = refl
 either-right false b e = e
 
+pub both-true : (a : Bool) → both a true ≡ a
+both-true true = refl
+both-true false = refl
+
+pub both-false : (a : Bool) → both a false ≡ false
+both-false true = refl
+both-false false = refl
+
+pub either-false : (a : Bool) → either a false ≡ a
+either-false true = refl
+either-false false = refl
+
+pub either-same : (a : Bool) → either a a ≡ a
+either-same true = refl
+either-same false = refl
+
 -- a test does not both hold and fail
 pub not-both : {t : Bool} → t ≡ true → t ≡ false → ⊥
 not-both p q = true≢false (sym p ∙ q)

@@ -34,7 +34,7 @@ select-formed m w =
     let l : length m ≡ 14 = whole-length select-body m w in
     either-right (whole enquiry (m ++ bccIn m ∷ [])) _
     (both-in (whole-snoc select-body any m (bccIn m) w refl)
-    (rw (getD-at m (bccIn m) [] 0 14 l, bcc-body m (bccIn m) l) (eq-eqb (bccIn m) (bccIn m) refl)))
+    (rw (getD-at m (bccIn m) [] 0 14 l, bcc-body m (bccIn m ∷ []) l) (eq-eqb (bccIn m) (bccIn m) refl)))
 
 -- ---- a beginning, and what could become a message
 -- a message has one of the two shapes

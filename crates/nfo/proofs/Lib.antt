@@ -5,3 +5,5 @@ pub mod Narrow
 pub mod Lawful
 pub mod Step
 pub mod Turns
+pub mod Beginning
+pub mod Follows

@@ -44,10 +44,10 @@ bcc-in-below : (m : List ℕ) → AllBelow 128 m → bccIn m < 128
 unfolding bccIn
 bcc-in-below m h = bcc-below 7 (take 11 (drop 3 m)) (below-take 128 11 (drop 3 m) (below-drop 128 3 m h))
 
--- the BCC in a body and one byte is that in the body
-pub bcc-body : (m : List ℕ) (b : ℕ) → length m ≡ 14 → bccIn (m ++ b ∷ []) ≡ bccIn m
+-- the BCC in a body and what follows it is that in the body
+pub bcc-body : (m z : List ℕ) → length m ≡ 14 → bccIn (m ++ z) ≡ bccIn m
 unfolding bccIn
-bcc-body m b l = rw (drop-append-le 3 m (b ∷ []) (omega arith), take-append-le 11 (drop 3 m) (b ∷ []) (omega (arith, length-drop 3 m)))
+bcc-body m z l = rw (drop-append-le 3 m z (omega arith), take-append-le 11 (drop 3 m) z (omega (arith, length-drop 3 m)))
 
 -- a SELECT without its BCC
 abbrev pub select-body : List Kind
@@ -62,7 +62,7 @@ select-split m e =
     let r = whole-split select-body any m (h .0) in
     let l : length (r .0) ≡ 14 = whole-length select-body (r .0) (r .3) in
     let last : getD m 14 0 ≡ r .1 = ap (λ (q : List ℕ). getD q 14 0) (r .2) ∙ getD-at (r .0) (r .1) [] 0 14 l in
-    let right : r .1 ≡ bccIn (r .0) = sym last ∙ eqb-true (getD m 14 0) (bccIn m) (h .1) ∙ ap bccIn (r .2) ∙ bcc-body (r .0) (r .1) l in
+    let right : r .1 ≡ bccIn (r .0) = sym last ∙ eqb-true (getD m 14 0) (bccIn m) (h .1) ∙ ap bccIn (r .2) ∙ bcc-body (r .0) (r .1 ∷ []) l in
     (r .0, r .3, l, r .2 ∙ ap (λ (b : ℕ). r .0 ++ b ∷ []) right)
 
 -- ---- MESSAGES ARE BYTES below 128

@@ -2,7 +2,7 @@
 use mathlib.Core.Path.{_≡_, refl, sym, ap, _∙_}
 use mathlib.Core.Bool.{Bool, true, false, false≢true, not}
 use mathlib.Core.List.{List, [], _∷_, _++_}
-use Prim.Native.Nat.{ℕ, zero, suc}
+use Prim.Native.Nat.{ℕ, zero, suc, _<_}
 use native.Mathlib.Omega.{arith}
 use borrow.Author.Tests.{eq-eqb, eqb-true, not-true}
 use lib.ListN.{length, length-append, getD}
@@ -64,6 +64,20 @@ whole-at [] (x ∷ m) i e = absurd (false≢true e)
 whole-at (k ∷ ks) [] i e = absurd (false≢true e)
 whole-at (k ∷ ks) (x ∷ m) zero e = both-out (fits k x) (whole ks m) e .0
 whole-at (k ∷ ks) (x ∷ m) (suc i) e = whole-at ks m i (both-out (fits k x) (whole ks m) e .1)
+
+-- the same of what has the shape so far
+pub part-length : (ks : List Kind) (m : List ℕ) → part ks m ≡ true → length m < length ks
+unfolding part
+part-length [] m e = absurd (false≢true e)
+part-length (k ∷ ks) [] e = omega arith
+part-length (k ∷ ks) (x ∷ m) e = omega (arith, part-length ks m (both-out (fits k x) (part ks m) e .1))
+
+pub part-at : (ks : List Kind) (m : List ℕ) (i : ℕ) → part ks m ≡ true → i < length m → fits (getD ks i any) (getD m i 0) ≡ true
+unfolding part
+part-at [] m i e l = absurd (false≢true e)
+part-at (k ∷ ks) [] i e l = absurd (omega arith)
+part-at (k ∷ ks) (x ∷ m) zero e l = both-out (fits k x) (part ks m) e .0
+part-at (k ∷ ks) (x ∷ m) (suc i) e l = part-at ks m i (both-out (fits k x) (part ks m) e .1) (omega arith)
 
 -- nothing goes on from a whole shape
 pub whole-ends : (ks : List Kind) (m z : List ℕ) → whole ks m ≡ true → whole ks (m ++ z) ≡ true → z ≡ []

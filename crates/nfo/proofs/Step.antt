@@ -26,7 +26,7 @@ module _ (s : List ℕ) (b : ℕ) where
 
   -- if these are a SELECT so far, and all of it, then b is its last byte
   last-byte : (t : Bool) → (t ≡ true → length s ≡ 14) → both t (eqb (getD (s ++ b ∷ []) 14 0) (bccIn (s ++ b ∷ []))) ≡ both t (eqb b (bccIn s))
-  last-byte true h = rw (getD-at s b [] 0 14 (h refl), bcc-body s b (h refl))
+  last-byte true h = rw (getD-at s b [] 0 14 (h refl), bcc-body s (b ∷ []) (h refl))
   last-byte false h = refl
 
   pub formed-step : formed (s ++ b ∷ [])

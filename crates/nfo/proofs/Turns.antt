@@ -37,7 +37,8 @@ text-kind text e = refl
 text-kind any e = absurd (false≢true e)
 
 module _ (ks : List Kind) (last : Step) (n b : ℕ) where
-  inside : suc n < length ks → stepIn ks last n b ≡ pick (fits (getD ks n any) b) Keeps Spoils
+  -- a place before the last
+  pub inside : suc n < length ks → stepIn ks last n b ≡ pick (fits (getD ks n any) b) Keeps Spoils
   unfolding stepIn
   inside h = simp (lt-ltb n (length ks) (omega arith), ne-eqb (suc n) (length ks) (omega arith))
 
