@@ -7,3 +7,4 @@ pub mod Step
 pub mod Turns
 pub mod Beginning
 pub mod Follows
+pub mod Parsed

@@ -1,4 +1,5 @@
 pub mod Shape
 pub mod Message
 pub mod Scan
+pub mod Parts
 pub mod Cases

@@ -1,7 +1,7 @@
 -- Scans: turn by turn, as a loop makes them; in two parts; and that a feeding which follows a format does the format's stream call.
 -- Assumes nothing.
 use mathlib.Core.Path.{_≡_, refl, sym, ap, _∙_}
-use mathlib.Core.Bool.{Bool, true, false}
+use mathlib.Core.Bool.{Bool, true, false, true≢false, false≢true}
 use mathlib.Core.List.{List, [], _∷_, _++_}
 use Prim.Native.Nat.{ℕ, _+_, _<_, _≤_}
 use native.Mathlib.Nat.{add-zero}
@@ -104,3 +104,22 @@ module _ (F : Format) (L : Lawful F) (G : Feeding) (W : Follows F G) where
           let q : held (G .next p b) ≡ feed F 0 (held p) b .pending = W .waits p b h v e in
           let k : F .viable (held (G .next p b)) ≡ true = rw q (feed-viable F L 0 (held p) b) in
           ih k ∙ rw q (sym (further-more n 1 _)) ∙ ap (further n) (sym (scanned-goes F (held p) b s w))
+
+  -- what it leaves: a message, or a beginning
+  pub scan-leaves : (s : List ℕ) (p : Pending) (n : ℕ) → Sized p → F .viable (held p) ≡ true
+      → (scanFrom G p n s .taken ≡ true → F .formed (held (scanFrom G p n s .pending)) ≡ true)
+      × (scanFrom G p n s .taken ≡ false → F .viable (held (scanFrom G p n s .pending)) ≡ true)
+  unfolding scanFrom
+  scan-leaves [] p n h v = (λ e. absurd (false≢true e), λ e. v)
+  scan-leaves (b ∷ s) p n h v = by (G .ends p b) refl (scan-leaves s (G .next p b) (n + 1) (W .sized p b h))
+    where
+      by : (t : Bool) → G .ends p b ≡ t
+          → (F .viable (held (G .next p b)) ≡ true
+          → (scanFrom G (G .next p b) (n + 1) s .taken ≡ true → F .formed (held (scanFrom G (G .next p b) (n + 1) s .pending)) ≡ true)
+          × (scanFrom G (G .next p b) (n + 1) s .taken ≡ false → F .viable (held (scanFrom G (G .next p b) (n + 1) s .pending)) ≡ true))
+          → (pick t (record { pending = G .next p b; used = n + 1; taken = true }) (scanFrom G (G .next p b) (n + 1) s) .taken ≡ true
+          → F .formed (held (pick t (record { pending = G .next p b; used = n + 1; taken = true }) (scanFrom G (G .next p b) (n + 1) s) .pending)) ≡ true)
+          × (pick t (record { pending = G .next p b; used = n + 1; taken = true }) (scanFrom G (G .next p b) (n + 1) s) .taken ≡ false
+          → F .viable (held (pick t (record { pending = G .next p b; used = n + 1; taken = true }) (scanFrom G (G .next p b) (n + 1) s) .pending)) ≡ true)
+      by true e ih = (λ q. rw (W .message p b h v e) (sym (W .formed p b h v) ∙ e), λ q. absurd (true≢false q))
+      by false e ih = ih (rw (W .waits p b h v e) (feed-viable F L 0 (held p) b))
