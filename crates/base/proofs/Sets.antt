@@ -6,8 +6,9 @@ use native.Mathlib.Nat.{zero-add, add-zero, add-suc, suc-add}
 use native.Mathlib.Omega.{arith}
 use lib.ListN.{length, take, drop, set, length-set, length-append, length-take, length-drop, take-append-drop}
 use lib.Seq.{sets, sets-eq, set-append-left, set-out, length-take-le, take-at}
+use borrow.Author.Tests.{lt-ltb, le-ltb}
 use borrow.Rule.Slice.PartMut.{midOf, postOf, putMid}
-use Rattle.base.specs.Buffers.{front}
+use Rattle.base.specs.Buffers.{front, fitting}
 
 set-append-right : (a d : List ℕ) (j v : ℕ) → set (a ++ d) (length a + j) v ≡ a ++ set d j v
 set-append-right [] d j v = ap (λ (n : ℕ). set d n v) (zero-add j)
@@ -86,3 +87,12 @@ length-front vs l h = omega (arith, length-append vs (drop (length vs) l), lengt
 pub front-none : (l : List ℕ) → front [] l ≡ l
 unfolding front
 front-none l = refl
+
+-- bytes that fit, and bytes that do not
+pub fitting-all : (vs : List ℕ) (n : ℕ) → length vs ≤ n → fitting vs n ≡ vs
+unfolding fitting
+fitting-all vs n h = simp (le-ltb n (length vs) h)
+
+pub fitting-none : (vs : List ℕ) (n : ℕ) → n < length vs → fitting vs n ≡ []
+unfolding fitting
+fitting-none vs n h = simp (lt-ltb n (length vs) h)

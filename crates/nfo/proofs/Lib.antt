@@ -8,3 +8,4 @@ pub mod Turns
 pub mod Beginning
 pub mod Follows
 pub mod Parsed
+pub mod Written
