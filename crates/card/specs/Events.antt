@@ -1,5 +1,5 @@
 -- Host events on the whole card. Assumes nothing.
-use mathlib.Core.Bool.{Bool, true, false}
+use mathlib.Core.Bool.{Bool}
 use Prim.Native.Nat.{ℕ, _+_}
 use lib.Bits.{bitOr}
 use lib.Dec.{eqb, ltb}
@@ -10,7 +10,7 @@ use Rattle.drive.specs.declared.plant.Plant.{Plant}
 use Rattle.drive.specs.declared.events.Event.{Event}
 use Rattle.drive.specs.Plant.{withFrq, withRms, withOptime}
 use Rattle.drive.specs.Events.{raised, ended, portFault, withActive}
-use Rattle.card.specs.State.{withSum, withSioerr, withPort, withPlant, cardSum}
+use Rattle.card.specs.State.{withSioerr, withPlant, cardSum}
 use Rattle.card.specs.declared.state.Card.{Card}
 use Rattle.card.specs.declared.events.After.{After}
 use Rattle.card.specs.declared.outcome.Outcome.the-variants.{Done, NoSuchEvent}

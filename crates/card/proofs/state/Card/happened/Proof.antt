@@ -1,5 +1,4 @@
 -- `card::Card::happened` meets its contract: the plant is put in place. Assumes nothing.
-use borrow.Author.Needs.{needs}
 use mathlib.Core.Path.{refl}
 use Rattle.card.specs.Events.{happened}
 use Rattle.card.proofs.state.Card.happened.Statement.{statement}

@@ -1,0 +1,38 @@
+-- What is replied: "ENQUIRY is answered by REPLY, SELECT by ACK, refusals by NAK", a broadcast by nothing. Assumes nothing.
+use mathlib.Core.List.{List, []}
+use Prim.Native.Nat.{ℕ, _%_}
+use lib.Dec.{eqb}
+use Rattle.base.specs.Choice.{pick}
+use Rattle.nfo.specs.Replies.{replyOf, ackOf, nakOf}
+use Rattle.nfo.specs.declared.message.Message.{Message}
+use Rattle.nfo.specs.declared.message.Message.the-variants.{Enquiry, Select}
+use Rattle.nfo.specs.declared.message.Parameter.{Parameter}
+use Rattle.nfo.specs.declared.message.Parameter.the-variants.{Number, NoNumber}
+use Rattle.drive.specs.declared.answer.Answer.{Answer}
+use Rattle.drive.specs.declared.answer.Answer.the-variants.{Told, Written, NotOurs, Refused}
+use Rattle.nfo_service.specs.Serve.{adrOf}
+
+-- ADR and the parameter that a message names
+abbrev pub adrIn : Message → ℕ
+adrIn (Enquiry adr parameter) = adr
+adrIn (Select adr parameter value) = adr
+
+abbrev pub parameterIn : Message → Parameter
+parameterIn (Enquiry adr parameter) = parameter
+parameterIn (Select adr parameter value) = parameter
+
+-- only a row that was named is told
+abbrev pub numberOf : Parameter → ℕ
+numberOf (Number e) = e .0
+numberOf NoNumber = 0
+
+-- the column NFO. "The reply repeats the request's ADR"
+unfoldable pub repliedBy : ℕ → ℕ → Answer → List ℕ
+repliedBy adr e (Told row word) = replyOf adr e (word % 0x10000)
+repliedBy adr e (Written change) = ackOf adr
+repliedBy adr e NotOurs = []
+repliedBy adr e (Refused refusal) = nakOf adr
+
+-- "95 is broadcast: SELECT acts without reply"; "A refused broadcast gets no reply"
+unfoldable pub replied : Message → Answer → List ℕ
+replied message answer = pick (eqb (adrIn message) (adrOf 95)) [] (repliedBy (adrIn message) (numberOf (parameterIn message)) answer)

@@ -1,0 +1,131 @@
+-- A message of NFO serial, served: "Order: .. NFO 1, 2, 3, 8, 4, 5, 6, 7". Assumes nothing.
+use mathlib.Core.Path.{_≡_, refl}
+use mathlib.Core.Bool.{Bool, true, false, not}
+use mathlib.Core.List.{List, [], _∷_, _++_}
+use Prim.Native.Nat.{ℕ, _+_}
+use lib.Dec.{eqb}
+use lib.ListN.{getD}
+use Rattle.base.specs.Choice.{pick, both, either}
+use Rattle.base.specs.Order.{Line, when, firstOf, saying, numbers}
+use Rattle.table.specs.Names.{SiAdr, SCMD}
+use Rattle.table.specs.Find.{rowOfE}
+use Rattle.table.specs.declared.labels.Row.{Row}
+use Rattle.table.specs.declared.labels.Found.{Found}
+use Rattle.table.specs.declared.labels.Found.the-variants.{At, NoRow}
+use Rattle.nfo.specs.declared.message.Message.{Message}
+use Rattle.nfo.specs.declared.message.Message.the-variants.{Enquiry, Select}
+use Rattle.nfo.specs.declared.message.Parameter.{Parameter}
+use Rattle.nfo.specs.declared.message.Parameter.the-variants.{Number, NoNumber}
+use Rattle.nfo.specs.declared.message.Value.{Value}
+use Rattle.nfo.specs.declared.message.Value.the-variants.{Word, NotHex}
+use Rattle.drive.specs.declared.plant.Plant.{Plant}
+use Rattle.drive.specs.declared.read.Told.{Told}
+use Rattle.drive.specs.declared.answer.Answer.{Answer}
+use Rattle.drive.specs.declared.answer.Answer.the-variants as Answers
+use Rattle.drive.specs.declared.write.Refusal.the-variants as Refusals
+use Rattle.drive.specs.declared.write.Permit.{Permit}
+use Rattle.drive.specs.declared.write.Permit.the-variants.{Write, Refused}
+use Rattle.drive.specs.Answer.{answerNumber}
+use Rattle.drive.specs.Faults.{only14, stopped}
+use Rattle.drive.specs.Read.{told}
+use Rattle.drive.specs.Write.{readOnly, writeLines, written}
+use Rattle.nfo_service.specs.declared.Served.{Served}
+
+-- ---- to whom a message speaks
+-- "ADR is address + 32"
+abbrev pub adrOf : ℕ → ℕ
+adrOf address = address + 32
+
+-- "95 is broadcast"
+abbrev pub toAll : ℕ → Bool
+toAll adr = eqb adr (adrOf 95)
+
+-- "We answer to SiAdr and to 0"
+unfoldable pub toUs : Plant → ℕ → Bool
+toUs p adr = both (not (toAll adr)) (either (eqb adr (adrOf 0)) (eqb adr (adrOf (getD (p .settings .words) SiAdr 0))))
+
+unfoldable pub reachesUs : Plant → ℕ → Bool
+reachesUs p adr = either (toAll adr) (toUs p adr)
+
+-- ---- what it names
+unfoldable pub rowNamed : Parameter → Found
+rowNamed (Number e) = rowOfE (e .0)
+rowNamed NoNumber = NoRow
+
+abbrev pub isNone : Found → Bool
+isNone (At row) = false
+isNone NoRow = true
+
+abbrev pub notHex : Value → Bool
+notHex (Word w) = false
+notHex NotHex = true
+
+-- where there is none, the lines below have refused it; these only fill the place
+abbrev pub theRow : Found → Row
+theRow (At row) = row
+theRow NoRow = record { 0 = 30 }
+
+abbrev pub theWord : Value → ℕ
+theWord (Word w) = w
+theWord NotHex = 0
+
+-- ---- the refusals, each with its "When", in the paper's order
+-- "1: other address", for an ENQUIRY also "broadcast read"; "2: no such row"
+abbrev pub enquiryLines : Plant → ℕ → Found → List (Line Answer)
+enquiryLines p adr found = when (not (toUs p adr)) Answers.NotOurs ∷ when (isNone found) (Answers.Refused Refusals.NoRow) ∷ []
+
+abbrev pub nameLines : Plant → ℕ → Found → List (Line Answer)
+nameLines p adr found = when (not (reachesUs p adr)) Answers.NotOurs ∷ when (isNone found) (Answers.Refused Refusals.NoRow) ∷ []
+
+-- "3: row is read-only"; "8: value not hex"
+abbrev pub rowLines : Row → Value → List (Line Answer)
+rowLines row value = when (readOnly (row .0)) (Answers.Refused Refusals.ReadOnly) ∷ when (notHex value) (Answers.Refused Refusals.Malformed) ∷ []
+
+-- "Order: .. NFO 1, 2, 3, 8, 4, 5, 6, 7"
+pub nfo-order : (p : Plant) (adr : ℕ) (found : Found) (row : Row) (value : Value)
+    → numbers answerNumber (nameLines p adr found ++ (rowLines row value ++ saying Answers.Refused (writeLines p (row .0) (theWord value))))
+    ≡ 1 ∷ 2 ∷ 3 ∷ 8 ∷ 4 ∷ 5 ∷ 6 ∷ 7 ∷ []
+nfo-order p adr found row value = refl
+
+-- ---- what is done
+-- "Refusals 2 to 9 change no state"
+abbrev pub keeping : Plant → ℕ → Answer → Served
+keeping p sioerr answer = record { plant = p; sioerr = sioerr; answer = answer }
+
+abbrev pub telling : Row → Told → Served
+telling row t = record { plant = t .plant; sioerr = t .sioerr; answer = Answers.Told row (t .word) }
+
+unfoldable pub enquiryServed : Plant → ℕ → ℕ → Parameter → Served
+enquiryServed p sioerr adr parameter =
+    firstOf (saying (keeping p sioerr) (enquiryLines p adr (rowNamed parameter)))
+    (telling (theRow (rowNamed parameter)) (told p (theRow (rowNamed parameter) .0) sioerr))
+
+-- "A broadcast SELECT of SCMD 0 while 14 is the only flag zeroes SioErr and clears 14 with outcome 0, at any MODE"
+unfoldable pub stops : Plant → ℕ → ℕ → ℕ → Bool
+stops p adr row w = both (toAll adr) (both (eqb row SCMD) (both (eqb w 0) (only14 p)))
+
+abbrev pub stopServed : Plant → Row → ℕ → Served
+stopServed p row w = record { plant = stopped p; sioerr = 0; answer = Answers.Written (record { row = row; word = w }) }
+
+abbrev pub permitted : Permit → Answer
+permitted (Write change) = Answers.Written change
+permitted (Refused refusal) = Answers.Refused refusal
+
+-- refusals 4 to 7, or the write
+unfoldable pub wroteServed : Plant → ℕ → ℕ → ℕ → Served
+wroteServed p sioerr row w = record { plant = written p row w .plant; sioerr = sioerr; answer = permitted (written p row w .permit) }
+
+-- a SELECT of a row that there is
+unfoldable pub rowSelected : Plant → ℕ → ℕ → Row → Value → Served
+rowSelected p sioerr adr row value =
+    firstOf (saying (keeping p sioerr) (rowLines row value))
+    (pick (stops p adr (row .0) (theWord value)) (stopServed p row (theWord value)) (wroteServed p sioerr (row .0) (theWord value)))
+
+unfoldable pub selectServed : Plant → ℕ → ℕ → Parameter → Value → Served
+selectServed p sioerr adr parameter value =
+    firstOf (saying (keeping p sioerr) (nameLines p adr (rowNamed parameter)))
+    (rowSelected p sioerr adr (theRow (rowNamed parameter)) value)
+
+unfoldable pub served : Plant → ℕ → Message → Served
+served p sioerr (Enquiry adr parameter) = enquiryServed p sioerr adr parameter
+served p sioerr (Select adr parameter value) = selectServed p sioerr adr parameter value

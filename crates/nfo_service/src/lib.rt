@@ -1,0 +1,243 @@
+// A message of NFO serial, served by the plant: the order of refusals, what is done, and what is replied.
+//
+// `serve` says what a message does and comes to; `write_answer` puts the reply into a lent buffer.
+use drive::Answer;
+use drive::Change;
+use drive::Permit;
+use drive::Plant;
+use drive::Refusal;
+use nfo::Message;
+use nfo::Parameter;
+use nfo::Value;
+use table::ENumber;
+use table::Found;
+use table::Row;
+use table::names::SCMD;
+use table::names::SI_ADR;
+ghost use mathlib.Core.Path.{_≡_};
+ghost use lib.Dec.{eqb};
+ghost use lib.ListN.{length};
+ghost use Rattle.base.specs.Buffers.{front, fitting};
+ghost use Rattle.nfo_service.specs.Serve.{adrOf, toUs, reachesUs, rowNamed, keeping, stops, wroteServed, rowSelected, selectServed, enquiryServed, served};
+ghost use Rattle.nfo_service.specs.Reply.{adrIn, parameterIn, numberOf, repliedBy, replied};
+
+// The plant and SioErr after a message, and what it came to.
+pub struct Served {
+    pub plant: Plant,
+    pub sioerr: u32,
+    pub answer: Answer,
+}
+
+// Serves a message: an ENQUIRY tells a row, a SELECT writes one. A refusal changes nothing.
+pub fn serve(plant: Plant, sioerr: u32, message: Message) -> Served
+    ensures { λ r. ⌜ r ≡ served plant sioerr message ⌝ }
+{
+    match message {
+        Message::Enquiry { adr, parameter } => enquire(plant, sioerr, adr, parameter),
+        Message::Select {
+            adr,
+            parameter,
+            value,
+        } => select(plant, sioerr, adr, parameter, value),
+    }
+}
+
+// Whether ADR is ours: SiAdr or 0, but for 95, which is broadcast.
+fn to_us(plant: Plant, adr: u8) -> bool
+    ensures { λ r. ⌜ r ≡ toUs plant adr ⌝ }
+{
+    if adr == 0x7F {
+        return false;
+    }
+    if adr == 0x20 {
+        return true;
+    }
+    let settings = plant.settings;
+    is_adr(adr, settings.words[SI_ADR])
+}
+
+// Whether ADR is that of an address.
+fn is_adr(adr: u8, address: u32) -> bool
+    ensures { λ r. ⌜ r ≡ eqb adr (adrOf address) ⌝ }
+{
+    (adr as u64) == (address as u64) + 32
+}
+
+// Whether ADR is ours or broadcast.
+fn reaches_us(plant: Plant, adr: u8) -> bool
+    ensures { λ r. ⌜ r ≡ reachesUs plant adr ⌝ }
+{
+    if adr == 0x7F {
+        return true;
+    }
+    to_us(plant, adr)
+}
+
+// The row that a message names.
+fn row_of(parameter: Parameter) -> Found
+    ensures { λ r. ⌜ r ≡ rowNamed parameter ⌝ }
+{
+    let Parameter::Number(e) = parameter else {
+        return Found::NoRow;
+    };
+    e.row()
+}
+
+// Nothing changes.
+fn keep(plant: Plant, sioerr: u32, answer: Answer) -> Served
+    ensures { λ r. ⌜ r ≡ keeping plant sioerr answer ⌝ }
+{
+    Served {
+        plant,
+        sioerr,
+        answer,
+    }
+}
+
+fn enquire(plant: Plant, sioerr: u32, adr: u8, parameter: Parameter) -> Served
+    ensures { λ r. ⌜ r ≡ enquiryServed plant sioerr adr parameter ⌝ }
+{
+    if !to_us(plant, adr) {
+        return keep(plant, sioerr, Answer::NotOurs);
+    }
+    let Found::At(row) = row_of(parameter) else {
+        return keep(plant, sioerr, Answer::Refused(Refusal::NoRow));
+    };
+    let told = plant.read(row, sioerr);
+    let after = told.plant;
+    Served {
+        plant: after,
+        sioerr: told.sioerr,
+        answer: Answer::Told(row, told.word),
+    }
+}
+
+fn select(plant: Plant, sioerr: u32, adr: u8, parameter: Parameter, value: Value) -> Served
+    ensures { λ r. ⌜ r ≡ selectServed plant sioerr adr parameter value ⌝ }
+{
+    if !reaches_us(plant, adr) {
+        return keep(plant, sioerr, Answer::NotOurs);
+    }
+    let Found::At(row) = row_of(parameter) else {
+        return keep(plant, sioerr, Answer::Refused(Refusal::NoRow));
+    };
+    select_row(plant, sioerr, adr, row, value)
+}
+
+// A SELECT of a row that there is.
+fn select_row(plant: Plant, sioerr: u32, adr: u8, row: Row, value: Value) -> Served
+    ensures { λ r. ⌜ r ≡ rowSelected plant sioerr adr row value ⌝ }
+{
+    if drive::read_only(row) {
+        return keep(plant, sioerr, Answer::Refused(Refusal::ReadOnly));
+    }
+    let Value::Word(word) = value else {
+        return keep(plant, sioerr, Answer::Refused(Refusal::Malformed));
+    };
+    let w = word as u32;
+    if is_stop(plant, adr, row, w) {
+        return Served {
+            plant: plant.stopped(),
+            sioerr: 0,
+            answer: Answer::Written(Change { row, word: w }),
+        };
+    }
+    write(plant, sioerr, row, w)
+}
+
+// The broadcast stop: SCMD 0 to all, while 14 is the only flag.
+fn is_stop(plant: Plant, adr: u8, row: Row, word: u32) -> bool
+    ensures { λ r. ⌜ r ≡ stops plant adr (row .0) word ⌝ }
+{
+    if adr != 0x7F {
+        return false;
+    }
+    if row.0 != SCMD {
+        return false;
+    }
+    if word != 0 {
+        return false;
+    }
+    plant.only_14()
+}
+
+// A write, as the plant permits it.
+fn write(plant: Plant, sioerr: u32, row: Row, word: u32) -> Served
+    ensures { λ r. ⌜ r ≡ wroteServed plant sioerr (row .0) word ⌝ }
+{
+    let wrote = plant.write(row, word);
+    let permit = wrote.permit;
+    let after = wrote.plant;
+    match permit {
+        Permit::Write(change) => Served {
+            plant: after,
+            sioerr,
+            answer: Answer::Written(change),
+        },
+        Permit::Refused(refusal) => Served {
+            plant: after,
+            sioerr,
+            answer: Answer::Refused(refusal),
+        },
+    }
+}
+
+// Puts the reply to a message at the start of a lent buffer, and tells its length: 0 where there is none, or where it does not fit.
+pub fn write_answer(message: Message, answer: Answer, out: &mut [u8]) -> usize
+    ensures count { λ r. ⌜ r ≡ length (fitting (replied message answer) (length (now (out .entry)))) ⌝ }
+    ensures lent { λ _. ⌜ now (out .exit) ≡ front (fitting (replied message answer) (length (now (out .entry)))) (now (out .entry)) ⌝ }
+{
+    let adr = adr_in(message);
+    if adr == 0x7F {
+        return 0;
+    }
+    put(adr, number_in(message), answer, out)
+}
+
+fn adr_in(message: Message) -> u8
+    ensures { λ r. ⌜ r ≡ adrIn message ⌝ }
+{
+    match message {
+        Message::Enquiry { adr, parameter: _ } => adr,
+        Message::Select {
+            adr,
+            parameter: _,
+            value: _,
+        } => adr,
+    }
+}
+
+fn parameter_in(message: Message) -> Parameter
+    ensures { λ r. ⌜ r ≡ parameterIn message ⌝ }
+{
+    match message {
+        Message::Enquiry { adr: _, parameter } => parameter,
+        Message::Select {
+            adr: _,
+            parameter,
+            value: _,
+        } => parameter,
+    }
+}
+
+// The E number that a message names, or 0.
+fn number_in(message: Message) -> ENumber
+    ensures { λ r. ⌜ r .0 ≡ numberOf (parameterIn message) ⌝ }
+{
+    let Parameter::Number(e) = parameter_in(message) else {
+        return ENumber(0);
+    };
+    e
+}
+
+fn put(adr: u8, e: ENumber, answer: Answer, out: &mut [u8]) -> usize
+    ensures count { λ r. ⌜ r ≡ length (fitting (repliedBy adr (e .0) answer) (length (now (out .entry)))) ⌝ }
+    ensures lent { λ _. ⌜ now (out .exit) ≡ front (fitting (repliedBy adr (e .0) answer) (length (now (out .entry)))) (now (out .entry)) ⌝ }
+{
+    match answer {
+        Answer::Told(_, word) => nfo::reply(adr, e, (word % 65536) as u16, out),
+        Answer::Written(_) => nfo::ack(adr, out),
+        Answer::NotOurs => 0,
+        Answer::Refused(_) => nfo::nak(adr, out),
+    }
+}
