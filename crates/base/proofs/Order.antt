@@ -5,7 +5,7 @@ use mathlib.Core.List.{List, [], _∷_, _++_}
 use Prim.Native.Nat.{ℕ}
 use borrow.Author.Tests.{not-true}
 use Rattle.base.specs.Choice.{pick}
-use Rattle.base.specs.Order.{Line, when, firstOf, noneOf, saying, numbers}
+use Rattle.base.specs.Order.{Line, firstOf, noneOf, saying, numbers}
 use Rattle.base.proofs.Tests.{both-out}
 
 -- lines in front come first

@@ -1,23 +1,21 @@
 -- The rules of the plant, case by case: each law's premises are what the code's tests and its callees showed. Assumes nothing.
 use mathlib.Core.Path.{_≡_, refl, sym, ap, _∙_}
 use mathlib.Core.Bool.{Bool, true, false, not}
-use mathlib.Core.List.{List}
 use mathlib.Core.Logic.{⊎-elim}
-use Prim.Native.Nat.{ℕ, _+_, _-_, _*_, _%_, _^_, _≤_, _<_}
+use Prim.Native.Nat.{ℕ, _-_, _*_, _%_, _^_, _≤_, _<_}
 use native.Mathlib.Nat.{one-mul, mod-eq-of-lt}
 use native.Mathlib.Omega.{arith}
-use lib.Dec.{eqb, leb}
+use lib.Dec.{eqb, leb, ltb}
 use lib.Bits.{bitOr, bitAnd}
 use lib.ListN.{getD, set, List·getD-eq-default}
 use lib.Pow.{pow-lt}
 use borrow.Author.Tests.{eq-eqb, ne-eqb, lt-ltb, le-ltb, le-leb, lt-leb, leb-true}
-use Rattle.base.specs.Choice.{pick, both, either}
+use Rattle.base.specs.Choice.{both, either}
 use Rattle.base.proofs.Arms.{NoneOf, upFrom, past}
 use Rattle.base.proofs.Tests.{both-out, either-out, either-right}
 use Rattle.table.specs.Names.{Mode, Setpoint, Inv-St-ack, SioErr}
 use Rattle.table.specs.Table.{lineAt}
 use Rattle.table.specs.Allowed.{allowedAt}
-use Rattle.table.specs.declared.allowed.Bounds.{Bounds}
 use Rattle.table.specs.declared.lines.Class.{Class}
 use Rattle.drive.specs.declared.plant.Settings.{Settings}
 use Rattle.drive.specs.declared.plant.Plant.{Plant}
@@ -26,25 +24,26 @@ use Rattle.drive.specs.declared.write.Refusal.the-variants.{NotPermitted
 use Rattle.drive.specs.declared.write.Change.{Change}
 use Rattle.drive.specs.declared.write.Permit.{Permit}
 use Rattle.drive.specs.declared.write.Permit.the-variants.{Write, Refused}
-use Rattle.drive.specs.Plant.{withSettings, withScmd, withCauses}
-use Rattle.drive.specs.Flags.{only, allBut}
+use Rattle.drive.specs.Plant.{withSettings, withCauses}
+use Rattle.drive.specs.Flags.{only}
 use Rattle.drive.specs.Faults.{active, flagStands, runs, flagRaised, acknowledged, without14}
 use Rattle.drive.specs.Events.{isFault, raised, ended}
 use Rattle.drive.specs.Read.{fromMode, wordAt, told}
-use Rattle.drive.specs.Write.{readOnly, boundsOf, fitsRow, allowed, held, takesScmd, admitted, permitOf, stored, applied, written}
+use Rattle.drive.specs.Refusals.{readOnly, boundsOf, allowed, isInit, held, permitted, writeLines}
+use Rattle.drive.specs.Write.{permitBy, permitOf, stored, applied, written}
 
 -- ---- running
 twice : (t : Bool) → t ≡ either (not (not t)) false
 twice true = refl
 twice false = refl
 
-pub runs-auto : (p : Plant) (a : Bool) → p .mode ≡ 2 → a ≡ active p → a ≡ true → eqb (p .flags) 0 ≡ runs p
-unfolding runs flagStands
-runs-auto p a m d e = simp (m, sym d ∙ e) (twice (eqb (p .flags) 0))
+pub runs-auto : (p : Plant) → p .mode ≡ 2 → (p .din1 ≡ 0 → ⊥) → eqb (p .flags) 0 ≡ runs p
+unfolding runs active flagStands
+runs-auto p m d = simp (m, ne-eqb _ _ d) (twice (eqb (p .flags) 0))
 
-pub runs-inactive : (p : Plant) (a : Bool) → p .mode ≡ 2 → a ≡ active p → a ≡ false → false ≡ runs p
-unfolding runs
-runs-inactive p a m d e = simp (m, sym d ∙ e)
+pub runs-inactive : (p : Plant) → p .mode ≡ 2 → p .din1 ≡ 0 → false ≡ runs p
+unfolding runs active
+runs-inactive p m d = simp (m, d)
 
 pub runs-bus : (p : Plant) → p .mode ≡ 3 → not (eqb (p .scmd) 0) ≡ runs p
 unfolding runs
@@ -70,10 +69,10 @@ fault-small n e =
 pub fault-shift : (n : ℕ) (b : Bool) → b ≡ isFault n → b ≡ true → n < 32
 fault-shift n b d e = fault-small n (sym d ∙ e)
 
-pub raised-known : (p q : Plant) (n : ℕ) (b : Bool) → b ≡ isFault n → b ≡ true → q ≡ flagRaised ((1 * 2 ^ n) % 4294967296) p
-    → record { plant = withCauses (bitOr (p .causes) ((1 * 2 ^ n) % 4294967296)) q; known = true } ≡ raised n p
+pub raised-known : (p : Plant) (n : ℕ) (b : Bool) → b ≡ isFault n → b ≡ true
+    → record { plant = withCauses (bitOr (p .causes) ((1 * 2 ^ n) % 4294967296)) (flagRaised ((1 * 2 ^ n) % 4294967296) p); known = true } ≡ raised n p
 unfolding raised
-raised-known p q n b d e f = simp (f, bit-is n (fault-shift n b d e), sym d ∙ e)
+raised-known p n b d e = simp (bit-is n (fault-shift n b d e), sym d ∙ e)
 
 pub raised-unknown : (p : Plant) (n : ℕ) (b : Bool) → b ≡ isFault n → b ≡ false → record { plant = p; known = false } ≡ raised n p
 unfolding raised
@@ -123,13 +122,13 @@ word-past p row sioerr h n =
     let l : 8 ≤ row - 22 = omega (arith, past 8 22 row h n) in
     simp (le-ltb row 22 h) (sym (List·getD-eq-default (fromMode p sioerr) 0 l))
 
-pub told-ack : (p q : Plant) (row sioerr word : ℕ) → row ≡ Inv-St-ack → q ≡ acknowledged p → word ≡ wordAt p row sioerr → record { plant = q; sioerr = sioerr; word = word } ≡ told p row sioerr
+pub told-ack : (p : Plant) (row sioerr word : ℕ) → row ≡ Inv-St-ack → word ≡ wordAt p row sioerr → record { plant = acknowledged p; sioerr = sioerr; word = word } ≡ told p row sioerr
 unfolding told
-told-ack p q row sioerr word h e f = simp (e, f, eq-eqb _ _ h)
+told-ack p row sioerr word h f = simp (f, eq-eqb _ _ h)
 
-pub told-sioerr : (p q : Plant) (row sioerr word : ℕ) → row ≡ SioErr → q ≡ without14 p → word ≡ wordAt p row sioerr → record { plant = q; sioerr = 0; word = word } ≡ told p row sioerr
+pub told-sioerr : (p : Plant) (row sioerr word : ℕ) → row ≡ SioErr → word ≡ wordAt p row sioerr → record { plant = without14 p; sioerr = 0; word = word } ≡ told p row sioerr
 unfolding told
-told-sioerr p q row sioerr word h e f = simp (e, f, h)
+told-sioerr p row sioerr word h f = simp (f, h)
 
 pub told-other : (p : Plant) (row sioerr word : ℕ) → (row ≡ Inv-St-ack → ⊥) → (row ≡ SioErr → ⊥) → word ≡ wordAt p row sioerr
     → record { plant = p; sioerr = sioerr; word = word } ≡ told p row sioerr
@@ -141,13 +140,38 @@ told-other p row sioerr word g h f = simp (f, ne-eqb _ _ g, ne-eqb _ _ h)
 pub at-class : (test : Class → Bool) (row : ℕ) (class k : Class) (r : Bool) → class ≡ lineAt row .2 → class ≡ k → r ≡ test k → r ≡ test (lineAt row .2)
 at-class test row class k r d e q = q ∙ ap test (sym e ∙ d)
 
-pub fits-wide : (row w width : ℕ) → 65536 ≤ w → width ≡ lineAt row .0 → eqb width 2 ≡ fitsRow row w
-unfolding fitsRow
-fits-wide row w width h e = simp (e, le-ltb _ _ h)
+-- an arm of a `match` on the row's class
+pub held-at : (p : Plant) (row : ℕ) (class k : Class) (r : Bool) → class ≡ lineAt row .2 → class ≡ k → r ≡ both (isInit k) (runs p) → r ≡ held p row
+unfolding held
+held-at p row class k r d e q = q ∙ ap (λ (x : Class). both (isInit x) (runs p)) (sym e ∙ d)
 
-pub allowed-fitting : (p : Plant) (row w : ℕ) (f : Bool) (by : Bounds) (r : Bool) → f ≡ fitsRow row w → f ≡ true → by ≡ boundsOf (p .settings) → r ≡ allowedAt row by w → r ≡ allowed p row w
+pub allowed-short : (p : Plant) (row w : ℕ) (r : Bool) → w < 65536 → r ≡ allowedAt row (boundsOf (p .settings)) w → r ≡ allowed p row w
 unfolding allowed
-allowed-fitting p row w f by r a b d q = simp (q, d, sym a ∙ b)
+allowed-short p row w r h q = simp (lt-ltb _ _ h) q
+
+pub allowed-wide : (p : Plant) (row w width : ℕ) (r : Bool) → width ≡ lineAt row .0 → width ≡ 2 → r ≡ allowedAt row (boundsOf (p .settings)) w → r ≡ allowed p row w
+unfolding allowed
+allowed-wide p row w width r d e q = q ∙ simp (eq-eqb _ _ (sym d ∙ e), either-right (ltb w 65536) true refl)
+
+pub allowed-over : (p : Plant) (row w width : ℕ) → 65536 ≤ w → width ≡ lineAt row .0 → (width ≡ 2 → ⊥) → false ≡ allowed p row w
+unfolding allowed
+allowed-over p row w width h d e = simp (le-ltb _ _ h, ← d, ne-eqb _ _ e)
+
+-- the order past its fourth test
+module _ (p : Plant) (row w : ℕ) (o a h t : Bool) (reads : o ≡ readOnly row) (writable : o ≡ false) (allows : a ≡ allowed p row w) (fine : not a ≡ false) (unflagged : p .flags ≡ 0)
+    (holds : h ≡ held p row) (free : h ≡ false) (permits : t ≡ permitted p row w) where
+  pub permit-no : not t ≡ true → Refused NotPermitted ≡ permitOf p row w
+  unfolding flagStands permitOf
+  permit-no e = simp (← reads, writable, ← allows, fine, unflagged, ← holds, free, ← permits, e)
+
+  pub permit-yes : not t ≡ false → Write (record { row = record { 0 = row }; word = w }) ≡ permitOf p row w
+  unfolding flagStands permitOf
+  permit-yes e = simp (← reads, writable, ← allows, fine, unflagged, ← holds, free, ← permits, e)
+
+-- a row that can be written is refused by 4 to 7 alone
+pub permit-writable : (p : Plant) (row w : ℕ) → readOnly row ≡ false → permitOf p row w ≡ permitBy (writeLines p row w) row w
+unfolding permitOf
+permit-writable p row w e = simp e
 
 abbrev put : ℕ → ℕ → Settings → Settings
 put row w s = record { words = set (s .words) row w }
@@ -167,22 +191,6 @@ stored-different s row w h e = simp (eq-eqb _ _ h, ne-eqb _ _ e)
 pub applied-setting : (p : Plant) (s : Settings) (row w : ℕ) → row < 22 → s ≡ stored row w (p .settings) → withSettings s p ≡ applied row w p
 unfolding applied
 applied-setting p s row w h e = simp (e, lt-ltb _ _ h)
-
--- the last line of the order, and past it
-module _ (p : Plant) (row w : ℕ) (a h t : Bool) (allows : a ≡ allowed p row w) (fine : not a ≡ false) (unflagged : p .flags ≡ 0) (holds : h ≡ held p row) (free : h ≡ false)
-    (takes : t ≡ takesScmd p row w) where
-  pub admitted-no : not t ≡ true → Refused NotPermitted ≡ admitted p row w
-  unfolding flagStands admitted
-  admitted-no e = simp (← allows, fine, unflagged, ← holds, free, ← takes, e)
-
-  pub admitted-yes : not t ≡ false → Write (record { row = record { 0 = row }; word = w }) ≡ admitted p row w
-  unfolding flagStands admitted
-  admitted-yes e = simp (← allows, fine, unflagged, ← holds, free, ← takes, e)
-
--- a row that can be written is refused by 4 to 7 alone
-pub permit-writable : (p : Plant) (row w : ℕ) (r : Permit) (b : Bool) → b ≡ readOnly row → b ≡ false → r ≡ admitted p row w → r ≡ permitOf p row w
-unfolding permitOf admitted
-permit-writable p row w r b d e q = simp (sym d ∙ e) q
 
 pub written-done : (p q : Plant) (row w : ℕ) (r : Permit) (change : Change) → r ≡ permitOf p row w → r ≡ Write change → q ≡ applied (change .row .0) (change .word) p
     → record { plant = q; permit = Write change } ≡ written p row w

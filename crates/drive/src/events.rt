@@ -29,8 +29,10 @@ impl Plant {
     {
         if is_fault(n) {
             let mask = 1u32 << n;
-            let mut plant = self.flag(mask);
+            let mut plant = self;
             plant.causes = self.causes | mask;
+            plant.flags = self.flags | mask;
+            plant.scmd = 0;
             return Event { plant, known: true };
         }
         Event {
@@ -60,7 +62,10 @@ impl Plant {
         ensures { λ r. ⌜ r ≡ portFault self ⌝ }
     {
         if self.mode == 3 {
-            return self.flag(FLAG_14);
+            let mut plant = self;
+            plant.flags = self.flags | FLAG_14;
+            plant.scmd = 0;
+            return plant;
         }
         self
     }

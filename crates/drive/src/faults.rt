@@ -2,7 +2,7 @@
 use crate::plant::Plant;
 ghost use mathlib.Core.Path.{_≡_};
 ghost use Rattle.drive.specs.Flags.{lowestOf};
-ghost use Rattle.drive.specs.Faults.{active, runs, statusOf, flagRaised, acknowledged, without14, only14, stopped};
+ghost use Rattle.drive.specs.Faults.{runs, statusOf, only14, stopped};
 
 // The mask of flag 14, which a port's time-out or parity fault raises.
 pub(crate) const FLAG_14: u32 = 0x4000;
@@ -22,19 +22,12 @@ fn lowest(flags: u32) -> u32
 }
 
 impl Plant {
-    // Whether DIN1 is active.
-    pub(crate) fn is_active(self) -> bool
-        ensures { λ r. ⌜ r ≡ active self ⌝ }
-    {
-        self.din1 != 0
-    }
-
     // Whether the drive runs: at MODE 2 by DIN1 while no flag stands, at MODE 3 by SCMD.
     pub fn running(self) -> bool
         ensures { λ r. ⌜ r ≡ runs self ⌝ }
     {
         if self.mode == 2 {
-            if self.is_active() {
+            if self.din1 != 0 {
                 return self.flags == 0;
             }
             return false;
@@ -67,34 +60,6 @@ impl Plant {
         24
     }
 
-    // The plant once the flags of a mask are raised, which stops it.
-    pub(crate) fn flag(self, mask: u32) -> Plant
-        ensures { λ r. ⌜ r ≡ flagRaised mask self ⌝ }
-    {
-        let mut plant = self;
-        plant.flags = self.flags | mask;
-        plant.scmd = 0;
-        plant
-    }
-
-    // The plant once the flags whose cause has ended are cleared, but not 14.
-    pub(crate) fn acknowledge(self) -> Plant
-        ensures { λ r. ⌜ r ≡ acknowledged self ⌝ }
-    {
-        let mut plant = self;
-        plant.flags = self.flags & (self.causes | FLAG_14);
-        plant
-    }
-
-    // The plant without flag 14.
-    pub(crate) fn without_14(self) -> Plant
-        ensures { λ r. ⌜ r ≡ without14 self ⌝ }
-    {
-        let mut plant = self;
-        plant.flags = self.flags & !FLAG_14;
-        plant
-    }
-
     // Whether 14 is the only flag.
     pub fn only_14(self) -> bool
         ensures { λ r. ⌜ r ≡ only14 self ⌝ }
@@ -106,7 +71,8 @@ impl Plant {
     pub fn stopped(self) -> Plant
         ensures { λ r. ⌜ r ≡ stopped self ⌝ }
     {
-        let mut plant = self.without_14();
+        let mut plant = self;
+        plant.flags = self.flags & !FLAG_14;
         plant.scmd = 0;
         plant
     }

@@ -1,4 +1,5 @@
 // Reading a row.
+use crate::faults::FLAG_14;
 use crate::plant::Plant;
 use table::Row;
 use table::names::*;
@@ -41,7 +42,8 @@ impl Plant {
         let n = row.0;
         let word = self.word(n, sioerr);
         if n == INV_ST_ACK {
-            let plant = self.acknowledge();
+            let mut plant = self;
+            plant.flags = self.flags & (self.causes | FLAG_14);
             return Told {
                 plant,
                 sioerr,
@@ -49,7 +51,8 @@ impl Plant {
             };
         }
         if n == SIO_ERR {
-            let plant = self.without_14();
+            let mut plant = self;
+            plant.flags = self.flags & !FLAG_14;
             return Told {
                 plant,
                 sioerr: 0,

@@ -7,7 +7,8 @@ use table::Row;
 use table::names::*;
 ghost use mathlib.Core.Path.{_≡_};
 ghost use Prim.Native.Nat.{_<_};
-ghost use Rattle.drive.specs.Write.{readOnly, initRow, boundsOf, fitsRow, allowed, held, takesScmd, admitted, permitOf, stored, applied, written};
+ghost use Rattle.drive.specs.Refusals.{readOnly, allowed, held, permitted};
+ghost use Rattle.drive.specs.Write.{permitOf, stored, applied, written};
 
 // Why a message is refused, by any protocol: document 01's refusals 2 to 9.
 pub enum Refusal {
@@ -59,30 +60,7 @@ pub fn read_only(row: Row) -> bool
     }
 }
 
-// Whether the row is written only when the drive does not run.
-fn is_init(row: Row) -> bool
-    ensures { λ r. ⌜ r ≡ initRow (row .0) ⌝ }
-{
-    let class = row.class();
-    match class {
-        Class::Init => true,
-        Class::Run => false,
-        Class::Read => false,
-    }
-}
-
 impl Settings {
-    // What the allowed numbers of some rows depend on.
-    fn bounds(self) -> Bounds
-        ensures { λ r. ⌜ r ≡ boundsOf self ⌝ }
-    {
-        Bounds {
-            magn: self.words[I_MAGN],
-            limt: self.words[I_LIMT],
-            mode: self.words[MODE_SETTING],
-        }
-    }
-
     // The settings once a row holds a word. A different Mode also sets Setpoint to 0.
     fn store(self, row: usize, word: u32) -> Settings
         requires { ⌜ row < 22 ⌝ }
@@ -101,24 +79,22 @@ impl Settings {
     }
 }
 
-// Whether the word fits the row's registers.
-fn fits(row: Row, word: u32) -> bool
-    ensures { λ r. ⌜ r ≡ fitsRow (row .0) word ⌝ }
-{
-    if word < 65536 {
-        return true;
-    }
-    row.width() == 2
-}
-
 impl Plant {
     // Whether the word fits the row's registers and stands for a number that the row allows.
     fn allows(self, row: Row, word: u32) -> bool
         ensures { λ r. ⌜ r ≡ allowed self (row .0) word ⌝ }
     {
-        if fits(row, word) {
-            let settings = self.settings;
-            return row.allows(word, settings.bounds());
+        let settings = self.settings;
+        let bounds = Bounds {
+            magn: settings.words[I_MAGN],
+            limt: settings.words[I_LIMT],
+            mode: settings.words[MODE_SETTING],
+        };
+        if word < 65536 {
+            return row.allows(word, bounds);
+        }
+        if row.width() == 2 {
+            return row.allows(word, bounds);
         }
         false
     }
@@ -127,15 +103,17 @@ impl Plant {
     fn holds(self, row: Row) -> bool
         ensures { λ r. ⌜ r ≡ held self (row .0) ⌝ }
     {
-        if is_init(row) {
-            return self.running();
+        let class = row.class();
+        match class {
+            Class::Init => self.running(),
+            Class::Run => false,
+            Class::Read => false,
         }
-        false
     }
 
     // SCMD is written only at MODE 3, and a run value only with DIN1 active.
     fn takes(self, row: Row, word: u32) -> bool
-        ensures { λ r. ⌜ r ≡ takesScmd self (row .0) word ⌝ }
+        ensures { λ r. ⌜ r ≡ permitted self (row .0) word ⌝ }
     {
         if row.0 != SCMD {
             return true;
@@ -146,13 +124,16 @@ impl Plant {
         if word == 0 {
             return true;
         }
-        self.is_active()
+        self.din1 != 0
     }
 
-    // Refusals 4 to 7, in this order, of a write to a row that can be written.
-    fn admit(self, row: Row, word: u32) -> Permit
-        ensures { λ r. ⌜ r ≡ admitted self (row .0) word ⌝ }
+    // Whether a row may be made to hold a word now: refusals 3 to 7, in this order.
+    pub fn permit(self, row: Row, word: u32) -> Permit
+        ensures { λ r. ⌜ r ≡ permitOf self (row .0) word ⌝ }
     {
+        if read_only(row) {
+            return Permit::Refused(Refusal::ReadOnly);
+        }
         if !self.allows(row, word) {
             return Permit::Refused(Refusal::NotAllowed);
         }
@@ -166,16 +147,6 @@ impl Plant {
             return Permit::Refused(Refusal::NotPermitted);
         }
         Permit::Write(Change { row, word })
-    }
-
-    // Whether a row may be made to hold a word now: refusals 3 to 7, in this order.
-    pub fn permit(self, row: Row, word: u32) -> Permit
-        ensures { λ r. ⌜ r ≡ permitOf self (row .0) word ⌝ }
-    {
-        if read_only(row) {
-            return Permit::Refused(Refusal::ReadOnly);
-        }
-        self.admit(row, word)
     }
 
     // The plant once a change is made. A different MODE stops the drive; rows that are not stored change nothing.

@@ -4,4 +4,11 @@ use Rattle.drive.proofs.events.is_fault.Statement.{statement}
 use Rattle.drive.proofs.events.is_fault.Tie as tie
 
 pub is-fault-spec : {M : Type 1} → statement M
-is-fault-spec = tie.close (tie.spec (λ c. search fault-low) (λ c. search fault-high) (λ c. search fault-0) (λ c. search fault-between) (λ c. search fault-past))
+is-fault-spec =
+    tie.close
+    (tie.spec
+    (λ c. search fault-low)
+    (λ c. search fault-high)
+    (λ c. search fault-0)
+    (λ c. search fault-between)
+    (λ c. search fault-past))

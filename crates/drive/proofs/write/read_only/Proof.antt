@@ -1,10 +1,19 @@
--- `drive::read_only` meets its contract, by the classes of the table. Assumes nothing.
+-- `drive::read_only` meets its contract: an arm for each class of the table. Assumes nothing.
 use borrow.Author.Needs.{needs}
-use Rattle.drive.specs.Write.{isRead, readOnly}
+use Rattle.drive.specs.Refusals.{isRead, readOnly}
 use Rattle.drive.proofs.Laws.{at-class}
 use Rattle.drive.proofs.write.read_only.Statement.{statement}
 use Rattle.drive.proofs.write.read_only.Tie as tie
 
 pub read-only-spec : {M : Type 1} → statement M
 unfolding readOnly
-read-only-spec = tie.close (tie.spec (λ c κs. search needs) (λ c. search needs) (λ c. search needs) (λ c. search needs) (λ c. search (at-class isRead)) (λ c. search (at-class isRead)) (λ c. search (at-class isRead)))
+read-only-spec =
+    tie.close
+    (tie.spec
+    (λ c κs. search needs)
+    (λ c. search needs)
+    (λ c. search needs)
+    (λ c. search needs)
+    (λ c. search (at-class isRead))
+    (λ c. search (at-class isRead))
+    (λ c. search (at-class isRead)))

@@ -1,4 +1,4 @@
--- `drive::Plant::apply` meets its contract, row by row. Assumes nothing.
+-- `drive::Plant::apply` meets its contract: a law for the settings, and the tests of the definition for the others. Assumes nothing.
 use borrow.Author.Needs.{needs}
 use Rattle.base.proofs.Tests.{tests}
 use Rattle.drive.proofs.Laws.{applied-setting}
@@ -8,4 +8,12 @@ use Rattle.drive.proofs.plant.Plant.apply.Tie as tie
 
 pub apply-spec : {M : Type 1} → statement M
 unfolding applied
-apply-spec = tie.close (tie.spec (λ c κs. search needs) (λ c. search applied-setting) (λ c. search tests) (λ c. search tests) (λ c. search tests) (λ c. search tests))
+apply-spec =
+    tie.close
+    (tie.spec
+    (λ c κs. search needs)
+    (λ c. search applied-setting)
+    (λ c. search tests)
+    (λ c. search tests)
+    (λ c. search tests)
+    (λ c. search tests))

@@ -1,10 +1,10 @@
 -- `drive::Plant::port_fault` meets its contract: flag 14 is raised at MODE 3 alone. Assumes nothing.
-use borrow.Author.Needs.{needs}
 use Rattle.base.proofs.Tests.{tests}
+use Rattle.drive.specs.Faults.{flagRaised}
 use Rattle.drive.specs.Events.{portFault}
 use Rattle.drive.proofs.plant.Plant.port_fault.Statement.{statement}
 use Rattle.drive.proofs.plant.Plant.port_fault.Tie as tie
 
 pub port-fault-spec : {M : Type 1} → statement M
-unfolding portFault
-port-fault-spec = tie.close (tie.spec (λ c κs. search needs) (λ c. search tests) (λ c. search tests))
+unfolding flagRaised portFault
+port-fault-spec = tie.close (tie.spec (λ c. search tests) (λ c. search tests))

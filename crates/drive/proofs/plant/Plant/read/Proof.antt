@@ -1,8 +1,10 @@
 -- `drive::Plant::read` meets its contract: a law for each row with an effect, and one for the others. Assumes nothing.
 use borrow.Author.Needs.{needs}
+use Rattle.drive.specs.Faults.{acknowledged, without14}
 use Rattle.drive.proofs.Laws.{told-ack, told-sioerr, told-other}
 use Rattle.drive.proofs.plant.Plant.read.Statement.{statement}
 use Rattle.drive.proofs.plant.Plant.read.Tie as tie
 
 pub read-spec : {M : Type 1} → statement M
-read-spec = tie.close (tie.spec (λ c κs. search needs) (λ c κs. search needs) (λ c. search told-ack) (λ c κs. search needs) (λ c. search told-sioerr) (λ c. search told-other))
+unfolding acknowledged without14
+read-spec = tie.close (tie.spec (λ c κs. search needs) (λ c. search told-ack) (λ c. search told-sioerr) (λ c. search told-other))

@@ -1,4 +1,4 @@
--- `drive::Plant::set_din1` meets its contract, by the two cases of `withActive`. Assumes nothing.
+-- `drive::Plant::set_din1` meets its contract: the two cases of `withActive`. Assumes nothing.
 use Rattle.drive.specs.Events.{withActive}
 use Rattle.drive.proofs.plant.Plant.set_din1.Statement.{statement}
 use Rattle.drive.proofs.plant.Plant.set_din1.Tie as tie

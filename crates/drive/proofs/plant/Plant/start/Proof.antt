@@ -1,7 +1,6 @@
 -- `drive::Plant::start` meets its contract: the table's start words, and the rest as `started` has it. Assumes nothing.
 use borrow.Author.Needs.{needs}
 use Rattle.drive.specs.Plant.{started}
-use Rattle.drive.specs.declared.plant.Settings.{Settings}
 use Rattle.drive.proofs.plant.Plant.start.Statement.{statement}
 use Rattle.drive.proofs.plant.Plant.start.Tie as tie
 

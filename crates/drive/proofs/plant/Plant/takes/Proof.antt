@@ -1,10 +1,10 @@
--- `drive::Plant::takes` meets its contract, test by test. Assumes nothing.
-use borrow.Author.Needs.{needs}
+-- `drive::Plant::takes` meets its contract: the tests are those of the definition, in its order. Assumes nothing.
 use Rattle.base.proofs.Tests.{tests}
-use Rattle.drive.specs.Write.{takesScmd}
+use Rattle.drive.specs.Faults.{active}
+use Rattle.drive.specs.Refusals.{permitted}
 use Rattle.drive.proofs.plant.Plant.takes.Statement.{statement}
 use Rattle.drive.proofs.plant.Plant.takes.Tie as tie
 
 pub takes-spec : {M : Type 1} → statement M
-unfolding takesScmd
-takes-spec = tie.close (tie.spec (λ c. search tests) (λ c. search tests) (λ c. search tests) (λ c κs. search needs) (λ c. search tests))
+unfolding active permitted
+takes-spec = tie.close (tie.spec (λ c. search tests) (λ c. search tests) (λ c. search tests) (λ c. search tests))

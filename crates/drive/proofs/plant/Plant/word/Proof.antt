@@ -11,4 +11,20 @@ past-table c = word-past _ _ _ (c .before .if1 .left) (rest-none _ (upFrom 22 8)
 
 pub word-spec : {M : Type 1} → statement M
 unfolding wordAt
-word-spec = tie.close (tie.spec (λ c. search needs) (λ c. search needs) (λ c. search word-stored) (λ c κs. search needs) (λ c κs. search needs) (λ c. search word-at) (λ c. search word-at) (λ c. search word-at) (λ c. search word-at) (λ c. search word-at) (λ c. search word-at) (λ c. search word-at) (λ c. search word-at) past-table)
+word-spec =
+    tie.close
+    (tie.spec
+    (λ c. search needs)
+    (λ c. search needs)
+    (λ c. search word-stored)
+    (λ c κs. search needs)
+    (λ c κs. search needs)
+    (λ c. search word-at)
+    (λ c. search word-at)
+    (λ c. search word-at)
+    (λ c. search word-at)
+    (λ c. search word-at)
+    (λ c. search word-at)
+    (λ c. search word-at)
+    (λ c. search word-at)
+    past-table)

@@ -5,4 +5,12 @@ use Rattle.drive.proofs.plant.Plant.write.Statement.{statement}
 use Rattle.drive.proofs.plant.Plant.write.Tie as tie
 
 pub write-spec : {M : Type 1} → statement M
-write-spec = tie.close (tie.spec (λ c κs. search needs) (λ c. search needs) (λ c. search needs) (λ c. search written-refused) (λ c κs. search needs) (λ c. search written-done))
+write-spec =
+    tie.close
+    (tie.spec
+    (λ c κs. search needs)
+    (λ c. search needs)
+    (λ c. search needs)
+    (λ c. search written-refused)
+    (λ c κs. search needs)
+    (λ c. search written-done))

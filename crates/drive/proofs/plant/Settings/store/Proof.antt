@@ -5,4 +5,13 @@ use Rattle.drive.proofs.plant.Settings.store.Statement.{statement}
 use Rattle.drive.proofs.plant.Settings.store.Tie as tie
 
 pub store-spec : {M : Type 1} → statement M
-store-spec = tie.close (tie.spec (λ c. search needs) (λ c. search needs) (λ c. search stored-other) (λ c. search needs) (λ c. search stored-same) (λ c. search needs) (λ c. search stored-different))
+store-spec =
+    tie.close
+    (tie.spec
+    (λ c. search needs)
+    (λ c. search needs)
+    (λ c. search stored-other)
+    (λ c. search needs)
+    (λ c. search stored-same)
+    (λ c. search needs)
+    (λ c. search stored-different))

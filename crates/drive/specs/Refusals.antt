@@ -1,0 +1,77 @@
+-- Why a write is refused, in document 01's order. Assumes nothing.
+use mathlib.Core.Path.{_≡_, refl}
+use mathlib.Core.Bool.{Bool, true, false, not}
+use mathlib.Core.List.{List, [], _∷_}
+use Prim.Native.Nat.{ℕ}
+use lib.Dec.{eqb, ltb}
+use lib.ListN.{getD}
+use Rattle.base.specs.Choice.{both, either}
+use Rattle.base.specs.Order.{Line, when, numbers}
+use Rattle.table.specs.Names.{I-magn, I-limt, Mode, SCMD}
+use Rattle.table.specs.Table.{lineAt}
+use Rattle.table.specs.Allowed.{allowedAt}
+use Rattle.table.specs.declared.allowed.Bounds.{Bounds}
+use Rattle.table.specs.declared.lines.Class.{Class}
+use Rattle.table.specs.declared.lines.Class.the-variants.{Init, Run, Read}
+use Rattle.drive.specs.declared.plant.Settings.{Settings}
+use Rattle.drive.specs.declared.plant.Plant.{Plant}
+use Rattle.drive.specs.declared.write.Refusal.{Refusal}
+use Rattle.drive.specs.declared.write.Refusal.the-variants.{NoRow, ReadOnly, NotAllowed, FlagStands, Running, NotPermitted, Malformed, NoFunction}
+use Rattle.drive.specs.Faults.{active, flagStands, runs}
+
+-- the column No
+abbrev pub refusalNumber : Refusal → ℕ
+refusalNumber NoRow = 2
+refusalNumber ReadOnly = 3
+refusalNumber NotAllowed = 4
+refusalNumber FlagStands = 5
+refusalNumber Running = 6
+refusalNumber NotPermitted = 7
+refusalNumber Malformed = 8
+refusalNumber NoFunction = 9
+
+-- ---- the column When
+-- 3: "row is read-only"
+abbrev pub isRead : Class → Bool
+isRead Init = false
+isRead Run = false
+isRead Read = true
+
+unfoldable pub readOnly : ℕ → Bool
+readOnly row = isRead (lineAt row .2)
+
+-- 4: "value not allowed", by the words of I-magn, I-limt and Mode; a word above FFFFh fits only a row of two registers
+unfoldable pub boundsOf : Settings → Bounds
+boundsOf s = record { magn = getD (s .words) I-magn 0; limt = getD (s .words) I-limt 0; mode = getD (s .words) Mode 0 }
+
+unfoldable pub allowed : Plant → ℕ → ℕ → Bool
+allowed p row w = both (either (ltb w 0x10000) (eqb (lineAt row .0) 2)) (allowedAt row (boundsOf (p .settings)) w)
+
+-- 6: "Init row, running"
+abbrev pub isInit : Class → Bool
+isInit Init = true
+isInit Run = false
+isInit Read = false
+
+unfoldable pub held : Plant → ℕ → Bool
+held p row = both (isInit (lineAt row .2)) (runs p)
+
+-- 7: "SCMD is written only at MODE 3; run values need DIN1 active"
+unfoldable pub permitted : Plant → ℕ → ℕ → Bool
+permitted p row w = either (not (eqb row SCMD)) (both (eqb (p .mode) 3) (either (eqb w 0) (active p)))
+
+-- ---- the order, which each protocol begins with lines of its own
+abbrev pub readLine : ℕ → Line Refusal
+readLine row = when (readOnly row) ReadOnly
+
+abbrev pub writeLines : Plant → ℕ → ℕ → List (Line Refusal)
+writeLines p row w =
+    when (not (allowed p row w)) NotAllowed
+    ∷ when (flagStands p) FlagStands
+    ∷ when (held p row) Running
+    ∷ when (not (permitted p row w)) NotPermitted
+    ∷ []
+
+-- "Order: .. 3, .. 4, 5, 6, 7"
+pub write-order : (p : Plant) (row w : ℕ) → numbers refusalNumber (readLine row ∷ writeLines p row w) ≡ 3 ∷ 4 ∷ 5 ∷ 6 ∷ 7 ∷ []
+write-order p row w = refl
