@@ -24,16 +24,15 @@ fn is_fault(n: u32) -> bool
 
 impl Plant {
     // Raises fault n: its cause stands, its flag is raised, and the drive stops.
-    pub fn raise_fault(self, n: u32) -> Event
+    pub fn raise_fault(mut self, n: u32) -> Event
         ensures { λ r. ⌜ r ≡ raised n self ⌝ }
     {
         if is_fault(n) {
             let mask = 1u32 << n;
-            let mut plant = self;
-            plant.causes = self.causes | mask;
-            plant.flags = self.flags | mask;
-            plant.scmd = 0;
-            return Event { plant, known: true };
+            self.causes |= mask;
+            self.flags |= mask;
+            self.scmd = 0;
+            return Event { plant: self, known: true };
         }
         Event {
             plant: self,
@@ -42,14 +41,13 @@ impl Plant {
     }
 
     // Ends the cause of fault n. Its flag stays.
-    pub fn end_cause(self, n: u32) -> Event
+    pub fn end_cause(mut self, n: u32) -> Event
         ensures { λ r. ⌜ r ≡ ended n self ⌝ }
     {
         if is_fault(n) {
             let mask = 1u32 << n;
-            let mut plant = self;
-            plant.causes = self.causes & !mask;
-            return Event { plant, known: true };
+            self.causes &= !mask;
+            return Event { plant: self, known: true };
         }
         Event {
             plant: self,
@@ -58,56 +56,51 @@ impl Plant {
     }
 
     // What a time-out or a parity fault of a port does to the plant: at MODE 3 it raises flag 14.
-    pub fn port_fault(self) -> Plant
+    pub fn port_fault(mut self) -> Plant
         ensures { λ r. ⌜ r ≡ portFault self ⌝ }
     {
         if self.mode == 3 {
-            let mut plant = self;
-            plant.flags = self.flags | FLAG_14;
-            plant.scmd = 0;
-            return plant;
+            self.flags |= FLAG_14;
+            self.scmd = 0;
+            return self;
         }
         self
     }
 
     // DIN1 becomes active, or inactive, which stops the drive.
-    pub fn set_din1(self, active: bool) -> Plant
+    pub fn set_din1(mut self, active: bool) -> Plant
         ensures { λ r. ⌜ r ≡ withActive active self ⌝ }
     {
-        let mut plant = self;
         if active {
-            plant.din1 = 1;
-            return plant;
+            self.din1 = 1;
+            return self;
         }
-        plant.din1 = 0;
-        plant.scmd = 0;
-        plant
+        self.din1 = 0;
+        self.scmd = 0;
+        self
     }
 
     // FrqAct is measured anew.
-    pub fn set_frq(self, word: u16) -> Plant
+    pub fn set_frq(mut self, word: u16) -> Plant
         ensures { λ r. ⌜ r ≡ withFrq word self ⌝ }
     {
-        let mut plant = self;
-        plant.frq = word as u32;
-        plant
+        self.frq = word as u32;
+        self
     }
 
     // I-rms is measured anew.
-    pub fn set_rms(self, word: u32) -> Plant
+    pub fn set_rms(mut self, word: u32) -> Plant
         ensures { λ r. ⌜ r ≡ withRms word self ⌝ }
     {
-        let mut plant = self;
-        plant.rms = word;
-        plant
+        self.rms = word;
+        self
     }
 
     // OpTime is measured anew.
-    pub fn set_optime(self, word: u32) -> Plant
+    pub fn set_optime(mut self, word: u32) -> Plant
         ensures { λ r. ⌜ r ≡ withOptime word self ⌝ }
     {
-        let mut plant = self;
-        plant.optime = word;
-        plant
+        self.optime = word;
+        self
     }
 }

@@ -68,12 +68,11 @@ impl Plant {
     }
 
     // The plant after the broadcast stop: flag 14 cleared, SCMD 0.
-    pub fn stopped(self) -> Plant
+    pub fn stopped(mut self) -> Plant
         ensures { λ r. ⌜ r ≡ stopped self ⌝ }
     {
-        let mut plant = self;
-        plant.flags = self.flags & !FLAG_14;
-        plant.scmd = 0;
-        plant
+        self.flags &= !FLAG_14;
+        self.scmd = 0;
+        self
     }
 }

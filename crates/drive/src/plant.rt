@@ -41,13 +41,12 @@ impl Plant {
     }
 
     // The plant after a restart: MODE 1, SCMD 0, and the flags of the standing causes. The rest is kept.
-    pub fn restart(self) -> Plant
+    pub fn restart(mut self) -> Plant
         ensures { λ r. ⌜ r ≡ restarted self ⌝ }
     {
-        let mut plant = self;
-        plant.mode = 1;
-        plant.scmd = 0;
-        plant.flags = self.causes;
-        plant
+        self.mode = 1;
+        self.scmd = 0;
+        self.flags = self.causes;
+        self
     }
 }

@@ -36,25 +36,23 @@ impl Plant {
     }
 
     // Reads a row: tells its word, then acknowledges where the row is Inv St, ack, and zeroes SioErr and flag 14 where it is SioErr. Any other row changes nothing.
-    pub fn read(self, row: Row, sioerr: u32) -> Told
+    pub fn read(mut self, row: Row, sioerr: u32) -> Told
         ensures { λ r. ⌜ r ≡ told self (row .0) sioerr ⌝ }
     {
         let n = row.0;
         let word = self.word(n, sioerr);
         if n == INV_ST_ACK {
-            let mut plant = self;
-            plant.flags = self.flags & (self.causes | FLAG_14);
+            self.flags &= self.causes | FLAG_14;
             return Told {
-                plant,
+                plant: self,
                 sioerr,
                 word,
             };
         }
         if n == SIO_ERR {
-            let mut plant = self;
-            plant.flags = self.flags & !FLAG_14;
+            self.flags &= !FLAG_14;
             return Told {
-                plant,
+                plant: self,
                 sioerr: 0,
                 word,
             };

@@ -62,20 +62,20 @@ pub fn read_only(row: Row) -> bool
 
 impl Settings {
     // The settings once a row holds a word. A different Mode also sets Setpoint to 0.
-    fn store(self, row: usize, word: u32) -> Settings
+    fn store(mut self, row: usize, word: u32) -> Settings
         requires { ⌜ row < 22 ⌝ }
         ensures { λ r. ⌜ r ≡ stored row word self ⌝ }
     {
-        let mut settings = self;
-        settings.words[row] = word;
+        let mode = self.words[MODE_SETTING];
+        self.words[row] = word;
         if row != MODE_SETTING {
-            return settings;
+            return self;
         }
-        if self.words[MODE_SETTING] == word {
-            return settings;
+        if mode == word {
+            return self;
         }
-        settings.words[SETPOINT] = 0;
-        settings
+        self.words[SETPOINT] = 0;
+        self
     }
 }
 
@@ -150,30 +150,29 @@ impl Plant {
     }
 
     // The plant once a change is made. A different MODE stops the drive; rows that are not stored change nothing.
-    pub fn apply(self, change: Change) -> Plant
+    pub fn apply(mut self, change: Change) -> Plant
         ensures { λ r. ⌜ r ≡ applied (change .row .0) (change .word) self ⌝ }
     {
         let row = change.row;
         let n = row.0;
         let word = change.word;
-        let mut plant = self;
         if n < 22 {
             let before = self.settings;
             let settings = before.store(n, word);
-            plant.settings = settings;
-            return plant;
+            self.settings = settings;
+            return self;
         }
         if n == MODE {
             if self.mode == word {
                 return self;
             }
-            plant.mode = word;
-            plant.scmd = 0;
-            return plant;
+            self.mode = word;
+            self.scmd = 0;
+            return self;
         }
         if n == SCMD {
-            plant.scmd = word;
-            return plant;
+            self.scmd = word;
+            return self;
         }
         self
     }

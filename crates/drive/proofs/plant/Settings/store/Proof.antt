@@ -10,8 +10,8 @@ store-spec =
     (tie.spec
     (λ c. search needs)
     (λ c. search needs)
-    (λ c. search stored-other)
     (λ c. search needs)
+    (λ c. search stored-other)
     (λ c. search stored-same)
     (λ c. search needs)
     (λ c. search stored-different))
