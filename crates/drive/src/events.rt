@@ -32,7 +32,10 @@ impl Plant {
             self.causes |= mask;
             self.flags |= mask;
             self.scmd = 0;
-            return Event { plant: self, known: true };
+            return Event {
+                plant: self,
+                known: true,
+            };
         }
         Event {
             plant: self,
@@ -47,7 +50,10 @@ impl Plant {
         if is_fault(n) {
             let mask = 1u32 << n;
             self.causes &= !mask;
-            return Event { plant: self, known: true };
+            return Event {
+                plant: self,
+                known: true,
+            };
         }
         Event {
             plant: self,
