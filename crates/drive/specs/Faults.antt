@@ -22,7 +22,7 @@ runs p =
     either (both (eqb (p .mode) 2) (both (active p) (not (flagStands p))))
     (both (eqb (p .mode) 3) (not (eqb (p .scmd) 0)))
 
--- "Inv St is the lowest flagged number, else 24 at MODE 1, 33/34 at MODE 2 and 37/38 at MODE 3, standing/running"; at a MODE that no routine makes, 24
+-- "Inv St is the lowest flagged number, else 24 at MODE 1, 33/34 at MODE 2 and 37/38 at MODE 3, standing/running"; at any other number, 24
 unfoldable pub statusOf : Plant → ℕ
 statusOf p =
     pick (flagStands p) (lowestOf (p .flags))

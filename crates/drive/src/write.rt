@@ -112,7 +112,7 @@ impl Plant {
     }
 
     // SCMD is written only at MODE 3, and a run value only with DIN1 active.
-    fn takes(self, row: Row, word: u32) -> bool
+    fn permits(self, row: Row, word: u32) -> bool
         ensures { λ r. ⌜ r ≡ permitted self (row .0) word ⌝ }
     {
         if row.0 != SCMD {
@@ -143,7 +143,7 @@ impl Plant {
         if self.holds(row) {
             return Permit::Refused(Refusal::Running);
         }
-        if !self.takes(row, word) {
+        if !self.permits(row, word) {
             return Permit::Refused(Refusal::NotPermitted);
         }
         Permit::Write(Change { row, word })
