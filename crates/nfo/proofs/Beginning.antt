@@ -12,12 +12,11 @@ use Rattle.base.specs.Choice.{pick, both, either}
 use Rattle.base.proofs.Tests.{either-out, either-right, both-true, both-false, either-false, either-same, is-false}
 use Rattle.nfo.specs.Shape.{Kind, any, text, byte, fits, part}
 use Rattle.nfo.specs.Message.{enquiry, select, bccIn, formed, viable}
-use Rattle.nfo.specs.Scan.{stepIn, stepOf}
+use Rattle.nfo.specs.Scan.{fitsAt, stepIn, stepOf}
 use Rattle.nfo.specs.declared.scanning.Step.{Step}
 use Rattle.nfo.specs.declared.scanning.Step.the-variants.{Keeps, Ends, Checks, Spoils}
 use Rattle.nfo.proofs.Shape.{part-length, part-at}
 use Rattle.nfo.proofs.Step.{viable-step, formed-step}
-use Rattle.nfo.proofs.Turns.{inside}
 
 -- ---- the three kinds of beginning
 -- up to place 2 the shapes go together
@@ -98,6 +97,11 @@ both-open b (suc zero) l = same-kind (eqb b 0x02) (fits text b)
 both-open b (suc (suc zero)) l = told-apart (eqb b 0x02) (fits text b)
 both-open b (suc (suc (suc n))) l = absurd (omega arith)
 
+-- a place before the last
+inside : (ks : List Kind) (last : Step) (n b : ℕ) → suc n < length ks → stepIn ks last n b ≡ pick (fits (getD ks n any) b) Keeps Spoils
+unfolding stepIn fitsAt
+inside ks last n b h = simp (lt-ltb n (length ks) (omega arith), ne-eqb (suc n) (length ks) (omega arith))
+
 module _ (s : List ℕ) (b : ℕ) where
   -- only the shape ks is left, and its last byte needs the test c besides
   one-shape : (ks : List Kind) (last : Step) (c : Bool) → length s < length ks
@@ -105,7 +109,7 @@ module _ (s : List ℕ) (b : ℕ) where
       → formed (s ++ b ∷ []) ≡ both (both (fits (getD ks (length s) any) b) (eqb (suc (length s)) (length ks))) c
       → (suc (length s) ≡ length ks → formed (s ++ b ∷ []) ≡ c → viable (s ++ b ∷ []) ≡ false → Does s b last)
       → Does s b (stepIn ks last (length s) b)
-  unfolding stepIn
+  unfolding stepIn fitsAt
   one-shape ks last c l v w end = rw (lt-ltb (length s) (length ks) l) (go (fits (getD ks (length s) any) b) (eqb (suc (length s)) (length ks)) refl v w)
     where
       go : (f x : Bool) → eqb (suc (length s)) (length ks) ≡ x → viable (s ++ b ∷ []) ≡ both f (ltb (suc (length s)) (length ks))

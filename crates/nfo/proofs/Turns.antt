@@ -13,20 +13,24 @@ use Rattle.base.proofs.Tests.{both-out, below-at}
 use Rattle.pending.specs.declared.Pending.{Pending}
 use Rattle.pending.specs.Held.{emptied, pushed, restarted}
 use Rattle.nfo.specs.Shape.{Kind, byte, text, any, fits}
-use Rattle.nfo.specs.Message.{bccIn}
-use Rattle.nfo.specs.Scan.{stepIn, stepOf, again, endsBy, nextBy, stepAfter, ends, fed}
+use Rattle.nfo.specs.Message.{enquiry, select, bccIn}
+use Rattle.nfo.specs.Scan.{fitsAt, stepIn, stepOf, again, endsBy, nextBy, stepAfter, ends, fed}
 use Rattle.nfo.specs.declared.scanning.Step.{Step}
 use Rattle.nfo.specs.declared.scanning.Step.the-variants.{Keeps, Ends, Checks, Spoils}
 
 -- ---- places of a shape
--- k places from a on take text, and none of them is the last
+-- a place of its own: the definition computes there
+pub fits-at : (ks : List Kind) (k n b : ℕ) (r : Bool) → n ≡ k → r ≡ fitsAt ks k b → r ≡ fitsAt ks n b
+fits-at ks k n b r e q = q ∙ ap (λ (m : ℕ). fitsAt ks m b) (sym e)
+
+-- k places from a on take text
 abbrev isText : Kind → Bool
 isText (byte c) = false
 isText text = true
 isText any = false
 
 abbrev textAt : List Kind → ℕ → Bool
-textAt ks n = both (isText (getD ks n any)) (ltb (suc n) (length ks))
+textAt ks n = both (isText (getD ks n any)) (ltb n (length ks))
 
 abbrev pub texts : List Kind → ℕ → ℕ → Bool
 texts ks a k = everyBelow k (λ i. textAt ks (a + i))
@@ -36,30 +40,46 @@ text-kind (byte c) e = absurd (false≢true e)
 text-kind text e = refl
 text-kind any e = absurd (false≢true e)
 
-module _ (ks : List Kind) (last : Step) (n b : ℕ) where
-  -- a place before the last
-  pub inside : suc n < length ks → stepIn ks last n b ≡ pick (fits (getD ks n any) b) Keeps Spoils
-  unfolding stepIn
-  inside h = simp (lt-ltb n (length ks) (omega arith), ne-eqb (suc n) (length ks) (omega arith))
+pub fits-text : (ks : List Kind) (a k n b : ℕ) (r : Bool) → texts ks a k ≡ true → a ≤ n → n < a + k → r ≡ fits text b → r ≡ fitsAt ks n b
+unfolding fitsAt
+fits-text ks a k n b r e l h q =
+    let at : a + (n - a) ≡ n = omega arith in
+    let w : textAt ks n ≡ true = rw at at (below-at k (λ i. textAt ks (a + i)) (n - a) e (omega arith)) in
+    let v = both-out (isText (getD ks n any)) (ltb n (length ks)) w in
+    q ∙ rw (v .1, text-kind (getD ks n any) (v .0))
 
-  -- a byte at one of them
-  pub step-text : (a k : ℕ) (t : Bool) (r : Step) → texts ks a k ≡ true → a ≤ n → n < a + k → t ≡ fits text b → r ≡ pick t Keeps Spoils → r ≡ stepIn ks last n b
-  step-text a k t r e l h p q =
-      let at : a + (n - a) ≡ n = omega arith in
-      let here : textAt ks n ≡ true = rw at at (below-at k (λ i. textAt ks (a + i)) (n - a) e (omega arith)) in
-      let w = both-out (isText (getD ks n any)) (ltb (suc n) (length ks)) here in
-      let kind : getD ks n any ≡ text = text-kind (getD ks n any) (w .0) in
-      let more : suc n < length ks = ltb-true (suc n) (length ks) (w .1) in
-      q ∙ ap (λ (x : Bool). pick x Keeps Spoils) (p ∙ ap (λ (x : Kind). fits x b) (sym kind)) ∙ sym (inside more)
+-- past the shape
+pub fits-past : (ks : List Kind) (n b : ℕ) → length ks ≤ n → false ≡ fitsAt ks n b
+unfolding fitsAt
+fits-past ks n b h = rw (le-ltb n (length ks) h)
 
-  -- a byte at place k: the definition computes there
-  pub step-at : (k : ℕ) (r : Step) → n ≡ k → r ≡ stepIn ks last k b → r ≡ stepIn ks last n b
-  step-at k r e q = q ∙ ap (λ (m : ℕ). stepIn ks last m b) (sym e)
+-- ---- what a byte does, by the byte that tells the shape and by whether it fits
+module _ (n third b t : ℕ) (e : t ≡ pick (ltb 2 n) third b) (f : Bool) where
+  module _ (two : t ≡ 0x02) (q : f ≡ fitsAt select n b) where
+    pub select-spoils : f ≡ false → Spoils ≡ stepOf n third b
+    unfolding stepOf stepIn
+    select-spoils h = simp (← e, eq-eqb t 0x02 two, ← q, h)
 
-  -- past the shape no byte goes on
-  pub step-past : length ks ≤ n → Spoils ≡ stepIn ks last n b
-  unfolding stepIn
-  step-past h = simp (le-ltb n (length ks) h)
+    pub select-checks : f ≡ true → n ≡ 14 → Checks ≡ stepOf n third b
+    unfolding stepOf stepIn select
+    select-checks h l = simp (← e, eq-eqb t 0x02 two, ← q, h, eq-eqb (suc n) 15 (omega arith))
+
+    pub select-keeps : f ≡ true → (n ≡ 14 → ⊥) → Keeps ≡ stepOf n third b
+    unfolding stepOf stepIn select
+    select-keeps h l = simp (← e, eq-eqb t 0x02 two, ← q, h, ne-eqb (suc n) 15 (omega arith))
+
+  module _ (other : t ≡ 0x02 → ⊥) (q : f ≡ fitsAt enquiry n b) where
+    pub enquiry-spoils : f ≡ false → Spoils ≡ stepOf n third b
+    unfolding stepOf stepIn
+    enquiry-spoils h = simp (← e, ne-eqb t 0x02 other, ← q, h)
+
+    pub enquiry-ends : f ≡ true → n ≡ 7 → Ends ≡ stepOf n third b
+    unfolding stepOf stepIn enquiry
+    enquiry-ends h l = simp (← e, ne-eqb t 0x02 other, ← q, h, eq-eqb (suc n) 8 (omega arith))
+
+    pub enquiry-keeps : f ≡ true → (n ≡ 7 → ⊥) → Keeps ≡ stepOf n third b
+    unfolding stepOf stepIn enquiry
+    enquiry-keeps h l = simp (← e, ne-eqb t 0x02 other, ← q, h, ne-eqb (suc n) 8 (omega arith))
 
 -- ---- what is pending after a byte, by what it does
 -- a new beginning does not depend on how many bytes were pending

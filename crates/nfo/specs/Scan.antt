@@ -14,9 +14,13 @@ use Rattle.nfo.specs.Message.{enquiry, select, bccIn}
 use Rattle.nfo.specs.declared.scanning.Step.{Step}
 use Rattle.nfo.specs.declared.scanning.Step.the-variants.{Keeps, Ends, Checks, Spoils}
 
--- what b does at place n of a shape, where the shape's last byte does this
+-- b may stand at place n of the shape
+unfoldable pub fitsAt : List Kind → ℕ → ℕ → Bool
+fitsAt ks n b = both (ltb n (length ks)) (fits (getD ks n any) b)
+
+-- what b does there, where the shape's last byte does this
 unfoldable pub stepIn : List Kind → Step → ℕ → ℕ → Step
-stepIn ks last n b = pick (both (ltb n (length ks)) (fits (getD ks n any) b)) (pick (eqb (suc n) (length ks)) last Keeps) Spoils
+stepIn ks last n b = pick (fitsAt ks n b) (pick (eqb (suc n) (length ks)) last Keeps) Spoils
 
 -- what b does where n bytes are pending, the third of which is this. The byte at place 2 tells the shape: 02 stands there in a SELECT. It is
 -- b itself that comes to place 2, and before that the shapes do not differ

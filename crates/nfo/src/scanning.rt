@@ -4,11 +4,12 @@ use pending::Scan;
 use pending::push;
 use pending::restart;
 ghost use mathlib.Core.Path.{_≡_};
+ghost use lib.Dec.{ltb};
 ghost use Rattle.base.specs.Choice.{pick};
 ghost use Rattle.pending.specs.Scanning.{scanFrom};
 ghost use Rattle.nfo.specs.Shape.{text, fits};
 ghost use Rattle.nfo.specs.Message.{enquiry, select, bccIn};
-ghost use Rattle.nfo.specs.Scan.{stepIn, stepOf, again, ends, fed, feeding};
+ghost use Rattle.nfo.specs.Scan.{fitsAt, stepOf, again, ends, fed, feeding};
 
 // What a byte does to what is pending.
 pub enum Step {
@@ -118,53 +119,60 @@ fn bcc_in(held: &[u8; 512]) -> u8
 fn next_step(n: usize, third: u8, b: u8) -> Step
     ensures { λ r. ⌜ r ≡ stepOf n third b ⌝ }
 {
-    if 2 < n {
-        if third == 0x02 {
-            return in_select(n, b);
+    if telling(n, third, b) == 0x02 {
+        if fits_select(n, b) {
+            if n == 14 {
+                return Step::Checks;
+            }
+            return Step::Keeps;
         }
-        return in_enquiry(n, b);
+        return Step::Spoils;
     }
-    if b == 0x02 {
-        return in_select(n, b);
+    if fits_enquiry(n, b) {
+        if n == 7 {
+            return Step::Ends;
+        }
+        return Step::Keeps;
     }
-    in_enquiry(n, b)
+    Step::Spoils
+}
+
+// The byte at place 2, which may be the one that comes. Before place 2 the shapes do not differ, and any byte will do.
+fn telling(n: usize, third: u8, b: u8) -> u8
+    ensures { λ r. ⌜ r ≡ pick (ltb 2 n) third b ⌝ }
+{
+    if 2 < n { third } else { b }
 }
 
 // place:    0  1   2       6 7
 // ENQUIRY:  04 ADR p p p p p 05
-fn in_enquiry(n: usize, b: u8) -> Step
-    ensures { λ r. ⌜ r ≡ stepIn enquiry Step.Ends n b ⌝ }
+fn fits_enquiry(n: usize, b: u8) -> bool
+    ensures { λ r. ⌜ r ≡ fitsAt enquiry n b ⌝ }
 {
     match n {
-        0 => if_fits(b == 0x04, Step::Keeps),
-        1..=6 => if_fits(is_text(b), Step::Keeps),
-        7 => if_fits(b == 0x05, Step::Ends),
-        _ => Step::Spoils,
+        0 => b == 0x04,
+        1..=6 => is_text(b),
+        7 => b == 0x05,
+        _ => false,
     }
 }
 
 // place:   0  1   2  3       7 8  9    12 13 14
 // SELECT:  04 ADR 02 p p p p p 3D v v v v 03 BCC
-fn in_select(n: usize, b: u8) -> Step
-    ensures { λ r. ⌜ r ≡ stepIn select Step.Checks n b ⌝ }
+fn fits_select(n: usize, b: u8) -> bool
+    ensures { λ r. ⌜ r ≡ fitsAt select n b ⌝ }
 {
     match n {
-        0 => if_fits(b == 0x04, Step::Keeps),
-        1 => if_fits(is_text(b), Step::Keeps),
-        2 => if_fits(b == 0x02, Step::Keeps),
-        3..=7 => if_fits(is_text(b), Step::Keeps),
-        8 => if_fits(b == 0x3D, Step::Keeps),
-        9..=12 => if_fits(is_text(b), Step::Keeps),
-        13 => if_fits(b == 0x03, Step::Keeps),
-        14 => Step::Checks,
-        _ => Step::Spoils,
+        0 => b == 0x04,
+        1 => is_text(b),
+        2 => b == 0x02,
+        3..=7 => is_text(b),
+        8 => b == 0x3D,
+        9..=12 => is_text(b),
+        13 => b == 0x03,
+        14 => true,
+        _ => false,
     }
-}
-
-fn if_fits(fits: bool, step: Step) -> Step
-    ensures { λ r. ⌜ r ≡ pick fits step Step.Spoils ⌝ }
-{
-    if fits { step } else { Step::Spoils }
 }
 
 // 20h to 7Fh
