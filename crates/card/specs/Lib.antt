@@ -1,3 +1,4 @@
 pub mod State
 pub mod Outcome
 pub mod Events
+pub mod Receive

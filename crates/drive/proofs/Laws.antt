@@ -5,7 +5,7 @@ use mathlib.Core.Logic.{⊎-elim}
 use Prim.Native.Nat.{ℕ, _-_, _*_, _%_, _^_, _≤_, _<_}
 use native.Mathlib.Nat.{one-mul, mod-eq-of-lt}
 use native.Mathlib.Omega.{arith}
-use lib.Dec.{eqb, leb, ltb}
+use lib.Dec.{eqb, leb}
 use lib.Bits.{bitOr, bitAnd}
 use lib.ListN.{getD, set, List·getD-eq-default}
 use lib.Pow.{pow-lt}
@@ -15,7 +15,6 @@ use Rattle.base.proofs.Arms.{NoneOf, upFrom, past}
 use Rattle.base.proofs.Tests.{both-out, either-out, either-right}
 use Rattle.table.specs.Names.{Mode, Setpoint, Inv-St-ack, SioErr}
 use Rattle.table.specs.Table.{lineAt}
-use Rattle.table.specs.Allowed.{allowedAt}
 use Rattle.table.specs.declared.lines.Class.{Class}
 use Rattle.drive.specs.declared.plant.Settings.{Settings}
 use Rattle.drive.specs.declared.plant.Plant.{Plant}
@@ -29,7 +28,7 @@ use Rattle.drive.specs.Flags.{only}
 use Rattle.drive.specs.Faults.{active, flagStands, runs, flagRaised, acknowledged, without14}
 use Rattle.drive.specs.Events.{isFault, raised, ended}
 use Rattle.drive.specs.Read.{fromMode, wordAt, told}
-use Rattle.drive.specs.Refusals.{readOnly, boundsOf, allowed, isInit, held, permitted, writeLines}
+use Rattle.drive.specs.Refusals.{readOnly, allowed, isInit, held, permitted, writeLines}
 use Rattle.drive.specs.Write.{permitBy, permitOf, stored, applied, written}
 
 -- ---- running
@@ -144,18 +143,6 @@ at-class test row class k r d e q = q ∙ ap test (sym e ∙ d)
 pub held-at : (p : Plant) (row : ℕ) (class k : Class) (r : Bool) → class ≡ lineAt row .2 → class ≡ k → r ≡ both (isInit k) (runs p) → r ≡ held p row
 unfolding held
 held-at p row class k r d e q = q ∙ ap (λ (x : Class). both (isInit x) (runs p)) (sym e ∙ d)
-
-pub allowed-short : (p : Plant) (row w : ℕ) (r : Bool) → w < 65536 → r ≡ allowedAt row (boundsOf (p .settings)) w → r ≡ allowed p row w
-unfolding allowed
-allowed-short p row w r h q = simp (lt-ltb _ _ h) q
-
-pub allowed-wide : (p : Plant) (row w width : ℕ) (r : Bool) → width ≡ lineAt row .0 → width ≡ 2 → r ≡ allowedAt row (boundsOf (p .settings)) w → r ≡ allowed p row w
-unfolding allowed
-allowed-wide p row w width r d e q = q ∙ simp (eq-eqb _ _ (sym d ∙ e), either-right (ltb w 65536) true refl)
-
-pub allowed-over : (p : Plant) (row w width : ℕ) → 65536 ≤ w → width ≡ lineAt row .0 → (width ≡ 2 → ⊥) → false ≡ allowed p row w
-unfolding allowed
-allowed-over p row w width h d e = simp (le-ltb _ _ h, ← d, ne-eqb _ _ e)
 
 -- the order past its fourth test
 module _ (p : Plant) (row w : ℕ) (o a h t : Bool) (reads : o ≡ readOnly row) (writable : o ≡ false) (allows : a ≡ allowed p row w) (fine : not a ≡ false) (unflagged : p .flags ≡ 0)

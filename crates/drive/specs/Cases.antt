@@ -5,7 +5,7 @@ use mathlib.Core.List.{List, [], _∷_, map}
 use Prim.Native.Nat.{ℕ}
 use Rattle.table.specs.Names.{P-Nom, I-magn, Mode, R-fix1, SpdScl-num, Setpoint, MODE, SCMD, Inv-St-ack, Inv-St, SioErr}
 use Rattle.table.specs.Table.{rows, lineAt, startWords}
-use Rattle.table.specs.Allowed.{twos, numberOf, within, eqZ, belowLimt, aboveMagn, atMode, setpointAllows, allows, allowedAt}
+use Rattle.table.specs.Allowed.{twos, numberOf, within, member, belowLimt, aboveMagn, atMode, setpointAllows, allows, allowedAt}
 use Rattle.drive.specs.declared.plant.Plant.{Plant}
 use Rattle.drive.specs.declared.write.Permit.{Permit}
 use Rattle.drive.specs.declared.write.Permit.the-variants.{Write, Refused}
@@ -97,5 +97,5 @@ cases =
     ∷ []
 
 pub cases-hold : map (λ (c : ℕ × ℕ). c .0) cases ≡ map (λ (c : ℕ × ℕ). c .1) cases
-unfolding rows lineAt startWords twos numberOf within eqZ belowLimt aboveMagn atMode setpointAllows allows allowedAt started restarted flagged lowestFrom lowestOf active flagStands runs statusOf flagRaised acknowledged without14 stopped isFault raised ended portFault withActive wordAt told readOnly boundsOf allowed held permitted permitOf stored applied
+unfolding rows lineAt startWords twos numberOf within member belowLimt aboveMagn atMode setpointAllows allows allowedAt started restarted flagged lowestFrom lowestOf active flagStands runs statusOf flagRaised acknowledged without14 stopped isFault raised ended portFault withActive wordAt told readOnly boundsOf allowed held permitted permitOf stored applied
 cases-hold = refl

@@ -3,7 +3,7 @@ use mathlib.Core.Path.{_≡_, refl}
 use mathlib.Core.Bool.{Bool, true, false, not}
 use mathlib.Core.List.{List, [], _∷_}
 use Prim.Native.Nat.{ℕ}
-use lib.Dec.{eqb, ltb}
+use lib.Dec.{eqb}
 use lib.ListN.{getD}
 use Rattle.base.specs.Choice.{both, either}
 use Rattle.base.specs.Order.{Line, when, numbers}
@@ -40,12 +40,12 @@ isRead Read = true
 unfoldable pub readOnly : ℕ → Bool
 readOnly row = isRead (lineAt row .2)
 
--- 4: "value not allowed", by the words of I-magn, I-limt and Mode; a word above FFFFh fits only a row of two registers
+-- 4: "value not allowed", by the words of I-magn, I-limt and Mode
 unfoldable pub boundsOf : Settings → Bounds
 boundsOf s = record { magn = getD (s .words) I-magn 0; limt = getD (s .words) I-limt 0; mode = getD (s .words) Mode 0 }
 
 unfoldable pub allowed : Plant → ℕ → ℕ → Bool
-allowed p row w = both (either (ltb w 0x10000) (eqb (lineAt row .0) 2)) (allowedAt row (boundsOf (p .settings)) w)
+allowed p row w = allowedAt row (boundsOf (p .settings)) w
 
 -- 6: "Init row, running"
 abbrev pub isInit : Class → Bool

@@ -4,7 +4,7 @@ use crate::write::Refusal;
 use table::Row;
 ghost use mathlib.Core.Path.{_≡_};
 ghost use Rattle.drive.specs.Answer.{answerNumber};
-ghost use Rattle.drive.specs.Write.{refusalNumber};
+ghost use Rattle.drive.specs.Refusals.{refusalNumber};
 
 // What was done, or the reason why nothing was.
 pub enum Answer {

@@ -80,7 +80,7 @@ impl Settings {
 }
 
 impl Plant {
-    // Whether the word fits the row's registers and stands for a number that the row allows.
+    // Whether the row allows the number that the word stands for.
     fn allows(self, row: Row, word: u32) -> bool
         ensures { λ r. ⌜ r ≡ allowed self (row .0) word ⌝ }
     {
@@ -90,13 +90,7 @@ impl Plant {
             limt: settings.words[I_LIMT],
             mode: settings.words[MODE_SETTING],
         };
-        if word < 65536 {
-            return row.allows(word, bounds);
-        }
-        if row.width() == 2 {
-            return row.allows(word, bounds);
-        }
-        false
+        row.allows(word, bounds)
     }
 
     // An Init row is held while the drive runs.

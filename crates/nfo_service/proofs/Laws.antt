@@ -23,7 +23,8 @@ use Rattle.drive.specs.declared.write.Change.{Change}
 use Rattle.drive.specs.declared.write.Wrote.{Wrote}
 use Rattle.drive.specs.Faults.{stopped}
 use Rattle.drive.specs.Read.{told}
-use Rattle.drive.specs.Write.{readOnly, written}
+use Rattle.drive.specs.Refusals.{readOnly}
+use Rattle.drive.specs.Write.{written}
 use Rattle.nfo_service.specs.Serve.{toUs, reachesUs, rowNamed, keeping, telling, stops, wroteServed, rowSelected, selectServed, enquiryServed}
 use Rattle.nfo_service.specs.Reply.{adrIn, parameterIn, numberOf, repliedBy, replied}
 use Rattle.nfo_service.specs.declared.Served.{Served}

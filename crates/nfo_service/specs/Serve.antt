@@ -28,7 +28,8 @@ use Rattle.drive.specs.declared.write.Permit.the-variants.{Write, Refused}
 use Rattle.drive.specs.Answer.{answerNumber}
 use Rattle.drive.specs.Faults.{only14, stopped}
 use Rattle.drive.specs.Read.{told}
-use Rattle.drive.specs.Write.{readOnly, writeLines, written}
+use Rattle.drive.specs.Refusals.{readOnly, writeLines}
+use Rattle.drive.specs.Write.{written}
 use Rattle.nfo_service.specs.declared.Served.{Served}
 
 -- ---- to whom a message speaks

@@ -1,12 +1,11 @@
--- `drive::Plant::allows` meets its contract: a word that fits is allowed as the table says. Assumes nothing.
+-- `drive::Plant::allows` meets its contract: the table says it, by the words of I-magn, I-limt and Mode. Assumes nothing.
 use borrow.Author.Needs.{needs}
-use Rattle.drive.proofs.Laws.{allowed-short, allowed-wide, allowed-over}
-use Rattle.drive.specs.Refusals.{boundsOf}
+use Rattle.drive.specs.Refusals.{boundsOf, allowed}
 use Rattle.drive.proofs.plant.Plant.allows.Statement.{statement}
 use Rattle.drive.proofs.plant.Plant.allows.Tie as tie
 
 pub allows-spec : {M : Type 1} → statement M
-unfolding boundsOf
+unfolding boundsOf allowed
 allows-spec =
     tie.close
     (tie.spec
@@ -14,8 +13,4 @@ allows-spec =
     (λ c. search needs)
     (λ c. search needs)
     (λ c κs. search needs)
-    (λ c. search allowed-short)
-    (λ c κs. search needs)
-    (λ c κs. search needs)
-    (λ c. search allowed-wide)
-    (λ c. search allowed-over))
+    (λ c. c .allows .ensures))
