@@ -1,0 +1,57 @@
+-- Demand 3: "Cut a stream of NFO serial or Modbus ASCII bytes anywhere: with nothing pending before, the taken messages' outcomes, joined replies and end
+-- state equal those of the left-to-right reading of the whole stream. There each well-formed message is taken exactly once, from wherever it begins, save an
+-- NFO message whose first byte is the last byte of one already taken." That it holds of NFO serial is `demand-3-nfo`, in proofs/Demand3.antt. Assumes nothing.
+use mathlib.Core.Path.{_≡_}
+use mathlib.Core.List.{List, []}
+use Prim.Native.Nat.{ℕ}
+use Rattle.stream.specs.Reading.{Yield, Reads}
+use Rattle.stream.specs.Scanned.{messagesOf}
+use Rattle.stream.specs.Theorem.{StreamTheorem}
+use Rattle.pending.specs.Held.{empty, held, Sized}
+use Rattle.nfo.specs.Message.{nfo}
+use Rattle.nfo.specs.Parts.{messageOf}
+use Rattle.nfo_service.specs.Reply.{replied}
+use Rattle.card.specs.declared.state.Card.{Card}
+use Rattle.card.specs.declared.outcome.Outcome.the-variants as Outcomes
+use Rattle.card.specs.State.{withPort, withPending}
+use Rattle.card.specs.Receive.{Received, received, servedBy, cardAfter}
+use Rattle.demands.specs.Calls.{Protocol, Course, Calls, servedAll}
+
+-- ---- NFO serial: the calls are `Card::receive_nfo`'s (its contract is `received`), and a message is served as document 01 says
+abbrev pub nfoServed : Card → List ℕ → Received
+nfoServed c m =
+    record {
+      card = cardAfter c (c .port .pending) (servedBy c (messageOf m));
+      outcome = Outcomes.Served (servedBy c (messageOf m) .answer);
+      used = 0;
+      reply = replied (messageOf m) (servedBy c (messageOf m) .answer);
+    }
+
+abbrev pub nfoSerial : Protocol
+nfoSerial = record { format = nfo; received = received; served = nfoServed }
+
+-- ---- the demand
+-- "with nothing pending before". (Each array of bytes pending has 512 bytes: its type in the code.)
+abbrev pub NothingPending : Card → Type 0
+NothingPending c = (held (c .port .pending) ≡ []) × Sized (c .port .pending)
+
+-- the card but for the bytes pending
+abbrev pub besides : Card → Card
+besides c = withPort (withPending empty (c .port)) c
+
+-- what came of the stream is what comes of serving the messages of the reading y one after another; and what is pending is what y leaves pending
+pub record Same (P : Protocol) (c : Card) (k : Course) (y : Yield) : Type 0 where
+  pub outcomes : k .outcomes ≡ servedAll P c (messagesOf (y .taken)) .outcomes
+  pub replies : k .replies ≡ servedAll P c (messagesOf (y .taken)) .replies
+  pub state : besides (k .card) ≡ besides (servedAll P c (messagesOf (y .taken)) .card)
+  pub pending : held (k .card .port .pending) ≡ y .pending
+
+pub record Demand3 (P : Protocol) : Type 0 where
+  -- whatever calls a caller makes of a stream, they come to the reading of the whole
+  pub reading : (c : Card) → NothingPending c → (s : List ℕ) (k : Course) → Calls P c s k → (y : Yield) → Reads (P .format) 0 s y → Same P c k y
+  -- so two callers of one stream come to the same card, in every byte of it, with the same outcomes and replies
+  pub any-cut : (c : Card) (s : List ℕ) (k l : Course) → Calls P c s k → Calls P c s l → k ≡ l
+  -- and for every stream there are such calls
+  pub some-calls : (c : Card) (s : List ℕ) → (k : Course) × Calls P c s k
+  -- the reading has one result, takes each well-formed message exactly once, save the exception, and leaves pending what could still become one
+  pub theory : StreamTheorem (P .format)
