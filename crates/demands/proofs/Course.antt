@@ -8,7 +8,7 @@ use native.Mathlib.Omega.{arith}
 use lib.ListN.{length, drop}
 use Rattle.base.specs.Choice.{pick}
 use Rattle.stream.specs.Format.{Format, Lawful}
-use Rattle.stream.specs.Reading.{Yield, taking} 
+use Rattle.stream.specs.Reading.{Yield, taking}
 use Rattle.stream.specs.Reading as Read
 use Rattle.stream.specs.Automaton.{turn, feed, feedAll}
 use Rattle.stream.specs.Scanned.{messagesOf}

@@ -1,1 +1,84 @@
--- Document 01's cases. Assumes nothing.
+-- Document 01's ★ cases of NFO serial, one table, one statement: what a card answers that has just started. Assumes nothing.
+use mathlib.Core.Path.{_≡_, refl}
+use mathlib.Core.List.{List, [], _∷_, _++_, map}
+use Prim.Native.Nat.{ℕ, zero, suc}
+use lib.ListN.{drop}
+use Rattle.card.specs.declared.state.Card.{Card}
+use Rattle.card.specs.declared.state.Protocol.the-variants.{Nfo}
+use Rattle.card.specs.declared.outcome.Outcome.{Outcome}
+use Rattle.card.specs.declared.outcome.Outcome.the-variants.{Done, Served, ShortBuffer, BadFrame, NoSuchEvent, NothingTaken}
+use Rattle.card.specs.State.{started}
+use Rattle.card.specs.Outcome.{numberOf}
+use Rattle.card.specs.Receive.{Received, received}
+
+-- a message's outcome number and its reply
+pub record Said : Type 0 where
+  pub number : ℕ
+  pub reply : List ℕ
+
+abbrev pub says : ℕ → List ℕ → Said
+says number reply = record { number = number; reply = reply }
+
+-- what a call says, before what the later ones say; nothing, where nothing was taken
+abbrev pub saying : Outcome → List ℕ → List Said → List Said
+saying Done reply later = later
+saying (Served answer) reply later = says (numberOf (Served answer)) reply ∷ later
+saying ShortBuffer reply later = []
+saying BadFrame reply later = []
+saying NoSuchEvent reply later = []
+saying NothingTaken reply later = []
+
+-- so many calls at the most of `Card::receive_nfo`, with a reply buffer of 19 bytes, each on the rest that the one before left
+abbrev pub said : ℕ → Card → List ℕ → List Said
+said zero c bytes = []
+said (suc n) c bytes =
+    let r : Received = received c bytes 19 in saying (r .outcome) (r .reply) (said n (r .card) (drop (r .used) bytes))
+
+-- the ENQUIRY of case 2, without the EOT that it begins with, and with it; its reply
+abbrev pub ask-rest : List ℕ
+ask-rest = 0x21 ∷ 0x45 ∷ 0x30 ∷ 0x30 ∷ 0x31 ∷ 0x44 ∷ 0x05 ∷ []
+
+abbrev pub ask : List ℕ
+ask = 0x04 ∷ ask-rest
+
+abbrev pub accel-50 : List ℕ
+accel-50 = 0x21 ∷ 0x02 ∷ 0x45 ∷ 0x30 ∷ 0x30 ∷ 0x31 ∷ 0x44 ∷ 0x3D ∷ 0x30 ∷ 0x30 ∷ 0x33 ∷ 0x32 ∷ 0x03 ∷ 0x0F ∷ []
+
+abbrev pub ack : List ℕ
+ack = 0x21 ∷ 0x06 ∷ []
+
+abbrev pub nak : List ℕ
+nak = 0x21 ∷ 0x15 ∷ []
+
+-- SELECT Accel, up to its value
+abbrev pub accel : List ℕ
+accel = 0x04 ∷ 0x21 ∷ 0x02 ∷ 0x45 ∷ 0x30 ∷ 0x30 ∷ 0x31 ∷ 0x44 ∷ 0x3D ∷ []
+
+-- SELECT R-fix1, up to its value
+abbrev pub r-fix1 : List ℕ
+r-fix1 = 0x04 ∷ 0x21 ∷ 0x02 ∷ 0x45 ∷ 0x30 ∷ 0x30 ∷ 0x33 ∷ 0x39 ∷ 0x3D ∷ []
+
+pub record Case : Type 0 where
+  pub bytes : List ℕ
+  pub right : List Said
+
+abbrev pub case : List ℕ → List Said → Case
+case bytes right = record { bytes = bytes; right = right }
+
+unfoldable pub cases : List Case
+cases =
+    -- 1: "S2's own SELECT .. outcome 2, NAK 21 15"
+    case (0x04 ∷ 0x21 ∷ 0x02 ∷ 0x45 ∷ 0x30 ∷ 0x30 ∷ 0x31 ∷ 0x39 ∷ 0x3D ∷ 0x30 ∷ 0x30 ∷ 0x36 ∷ 0x34 ∷ 0x03 ∷ 0x71 ∷ []) (says 2 nak ∷ [])
+    -- 2: ENQUIRY of Accel
+    ∷ case ask (says 0 accel-50 ∷ [])
+    -- 3: "SELECT Accel 0064h, BCC 0C: 21 06. With BCC 0D: nothing taken"
+    ∷ case (accel ++ (0x30 ∷ 0x30 ∷ 0x36 ∷ 0x34 ∷ 0x03 ∷ 0x0C ∷ [])) (says 0 ack ∷ [])
+    ∷ case (accel ++ (0x30 ∷ 0x30 ∷ 0x36 ∷ 0x34 ∷ 0x03 ∷ 0x0D ∷ [])) []
+    -- 4: "R-fix1 B1E0h (−20000): 0. B1DFh: 4"
+    ∷ case (r-fix1 ++ (0x42 ∷ 0x31 ∷ 0x45 ∷ 0x30 ∷ 0x03 ∷ 0x77 ∷ [])) (says 0 ack ∷ [])
+    ∷ case (r-fix1 ++ (0x42 ∷ 0x31 ∷ 0x44 ∷ 0x46 ∷ 0x03 ∷ 0x00 ∷ [])) (says 4 nak ∷ [])
+    -- 5: "SELECT Accel 0093h has BCC 04. Without an EOT of its own, the ENQUIRY of case 2 right after it is lost"
+    ∷ case (accel ++ (0x30 ∷ 0x30 ∷ 0x39 ∷ 0x33 ∷ 0x03 ∷ 0x04 ∷ ask-rest)) (says 0 ack ∷ [])
+    -- 6: "04 21 02 45 30 30 31 44 3D 30 30 39 34 03, then case 2: its reply only"
+    ∷ case (accel ++ (0x30 ∷ 0x30 ∷ 0x39 ∷ 0x34 ∷ 0x03 ∷ ask)) (says 0 accel-50 ∷ [])
+    ∷ []
