@@ -1,4 +1,3 @@
-pub mod Arms
 pub mod Apart
 pub mod Lookup
 pub mod Numbers

@@ -22,7 +22,7 @@ use Rattle.table.specs.declared.labels.FirstOf.the-variants.{Adi, NoAdi}
 use Rattle.table.specs.declared.labels.Found.{Found}
 use Rattle.table.specs.declared.labels.Found.the-variants.{At, NoRow}
 use Rattle.table.proofs.Apart.{every, pairwise, apart, apart-out, all-apart}
-use Rattle.table.proofs.Arms.{NoneOf, upFrom, past}
+use Rattle.base.proofs.Arms.{NoneOf, upFrom, past}
 
 -- past the table there is no line
 pub past-table : (n : ℕ) → NoneOf n (upFrom 0 30) → (0, Nothing, Read, NoWord) ≡ lineAt n

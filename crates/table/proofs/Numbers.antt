@@ -17,7 +17,7 @@ use Rattle.base.proofs.Tests.{same-test, pick-both}
 use Rattle.table.specs.Allowed.{twos, numberOf, eqZ, member, within, belowLimt, aboveMagn, about, atMode, setpointAllows, allows, allowedAt}
 use Rattle.table.specs.Table.{lineAt}
 use Rattle.table.specs.declared.lines.Line.{Line}
-use Rattle.table.proofs.Arms.{NoneOf, upFrom}
+use Rattle.base.proofs.Arms.{NoneOf, upFrom}
 use Rattle.table.specs.declared.allowed.Bounds.{Bounds}
 use Rattle.table.specs.declared.lines.Allowed.{Allowed}
 use Rattle.table.specs.declared.lines.Allowed.the-variants.{Between, OneOf, BelowLimt, AboveMagn, ByMode, Nothing}

@@ -2,7 +2,7 @@
 use borrow.Author.Needs.{needs}
 use mathlib.Core.Path.{refl}
 use Rattle.table.proofs.Numbers.{setpoint-at, setpoint-none}
-use Rattle.table.proofs.Arms.{rest-none, upFrom}
+use Rattle.base.proofs.Arms.{rest-none, upFrom}
 use Rattle.table.specs.Allowed.{atMode}
 use Rattle.table.proofs.allowed.setpoint.Statement.{statement}
 use Rattle.table.proofs.allowed.setpoint.Tie as tie

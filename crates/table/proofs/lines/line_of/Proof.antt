@@ -1,6 +1,6 @@
 -- `table::line_of` meets its contract: each arm is the line that the table has at its place, and past the table there is none. Assumes nothing.
 use Rattle.table.specs.Table.{rows, lineAt}
-use Rattle.table.proofs.Arms.{at-key, rest-none, upFrom}
+use Rattle.base.proofs.Arms.{at-key, rest-none, upFrom}
 use Rattle.table.proofs.Lookup.{past-table}
 use Rattle.table.proofs.lines.line_of.Statement.{statement}
 use Rattle.table.proofs.lines.line_of.Tie as tie

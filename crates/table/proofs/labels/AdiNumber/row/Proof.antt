@@ -2,7 +2,7 @@
 -- Assumes nothing.
 use Rattle.table.specs.Table.{rows}
 use Rattle.table.specs.Find.{firstRow, rowOfAdi}
-use Rattle.table.proofs.Arms.{at-key, rest-none}
+use Rattle.base.proofs.Arms.{at-key, rest-none}
 use Rattle.table.proofs.Lookup.{labels, addAdi, no-adi}
 use Rattle.table.proofs.labels.AdiNumber.row.Statement.{statement}
 use Rattle.table.proofs.labels.AdiNumber.row.Tie as tie

@@ -2,7 +2,7 @@
 -- Assumes nothing.
 use Rattle.table.specs.Table.{rows}
 use Rattle.table.specs.Find.{firstRow, rowOfE}
-use Rattle.table.proofs.Arms.{at-key, rest-none}
+use Rattle.base.proofs.Arms.{at-key, rest-none}
 use Rattle.table.proofs.Lookup.{labels, addE, no-e}
 use Rattle.table.proofs.labels.ENumber.row.Statement.{statement}
 use Rattle.table.proofs.labels.ENumber.row.Tie as tie

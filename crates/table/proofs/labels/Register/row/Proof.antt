@@ -4,7 +4,7 @@ use borrow.Author.Needs.{needs}
 use Rattle.table.specs.Table.{rows}
 use Rattle.table.specs.Address.{address, firstRegister}
 use Rattle.table.specs.Find.{firstRow, rowFrom}
-use Rattle.table.proofs.Arms.{at-key}
+use Rattle.base.proofs.Arms.{at-key}
 use Rattle.table.proofs.Lookup.{from-none, from-adi}
 use Rattle.table.proofs.labels.Register.row.Statement.{statement}
 use Rattle.table.proofs.labels.Register.row.Tie as tie
