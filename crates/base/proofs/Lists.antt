@@ -4,8 +4,8 @@ use mathlib.Core.List.{List, [], _∷_, _++_, foldl}
 use Prim.Native.Nat.{ℕ, zero, suc, _+_, _≤_, _<_}
 use native.Mathlib.Numerals.{add-one}
 use native.Mathlib.Omega.{arith}
-use lib.ListN.{length, take, drop, getD, drop-of-length-le}
-use lib.Seq.{drop-cons}
+use lib.ListN.{length, take, drop, getD, length-drop, drop-of-length-le}
+use lib.Seq.{drop-cons, take-append-le, drop-append-le}
 use Rattle.base.specs.Bytes.{AllBelow}
 
 -- ---- numbers below a bound
@@ -41,6 +41,10 @@ unfolding AllBelow
 below-drop n zero s h = h
 below-drop n (suc k) [] h = tt
 below-drop n (suc k) (x ∷ s) h = below-drop n k s (h .1)
+
+-- ---- k elements from a on do not depend on what comes after them
+pub part-append : (a k : ℕ) (m z : List ℕ) → a + k ≤ length m → take k (drop a (m ++ z)) ≡ take k (drop a m)
+part-append a k m z h = rw (drop-append-le a m z (omega arith), take-append-le k (drop a m) z (omega (arith, length-drop a m)))
 
 -- ---- a loop that folds over a slice: a turn of it, and its end
 pub fold-turn : (f : ℕ → ℕ → ℕ) (s : List ℕ) (x i : ℕ) → i < length s → foldl f x (drop i s) ≡ foldl f (f x (getD s i 0)) (drop (i + 1) s)

@@ -7,12 +7,13 @@ use Prim.Native.Nat.{ℕ, _<_}
 use native.Mathlib.Omega.{arith}
 use borrow.Author.Tests.{eqb-true, leb-true, ltb-true}
 use lib.Dec.{eqb, ltb, leb}
-use lib.ListN.{length, getD, take, drop, length-drop}
-use lib.Seq.{take-append-le, drop-append-le, getD-at}
+use lib.ListN.{length, getD, take, drop}
+use lib.Seq.{getD-at}
 use Rattle.base.specs.Choice.{both}
 use Rattle.base.specs.Bytes.{AllBelow}
 use Rattle.base.proofs.Tests.{both-out, either-out}
-use Rattle.base.proofs.Lists.{below-append, below-take, below-drop}
+use Rattle.base.proofs.Lists.{below-append, below-take, below-drop, part-append}
+use Rattle.checks.specs.Bcc.{bccOf}
 use Rattle.checks.proofs.Laws.{bcc-below}
 use Rattle.nfo.specs.Shape.{Kind, byte, text, any, fits, whole}
 use Rattle.nfo.specs.Message.{ADR, p, v, enquiry, select, bccIn, formed}
@@ -47,7 +48,7 @@ bcc-in-below m h = bcc-below 7 (take 11 (drop 3 m)) (below-take 128 11 (drop 3 m
 -- the BCC in a body and what follows it is that in the body
 pub bcc-body : (m z : List ℕ) → length m ≡ 14 → bccIn (m ++ z) ≡ bccIn m
 unfolding bccIn
-bcc-body m z l = rw (drop-append-le 3 m z (omega arith), take-append-le 11 (drop 3 m) z (omega (arith, length-drop 3 m)))
+bcc-body m z l = ap bccOf (part-append 3 11 m z (omega arith))
 
 -- a SELECT without its BCC
 abbrev pub select-body : List Kind

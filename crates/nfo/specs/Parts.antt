@@ -14,29 +14,22 @@ use Rattle.nfo.specs.declared.message.Parameter.the-variants.{Number, No
 use Rattle.nfo.specs.declared.message.Message.{Message}
 use Rattle.nfo.specs.declared.message.Message.the-variants.{Enquiry, Select}
 
--- "A value is four hex digits": two pairs, the high byte first
+-- "A value is four hex digits": two pairs, the high byte first. It begins at this place
 abbrev pub wordIn : Pair → Pair → Value
 wordIn (Byte high) (Byte low) = Word (256 * high + low)
 wordIn (Byte high) NoByte = NotHex
 wordIn NoByte low = NotHex
 
-unfoldable pub valueOf : ℕ → ℕ → ℕ → ℕ → Value
-valueOf a b c d = wordIn (pairValue a b) (pairValue c d)
+unfoldable pub valueAt : ℕ → List ℕ → Value
+valueAt i m = wordIn (pairValue (getD m i 0) (getD m (i + 1) 0)) (pairValue (getD m (i + 2) 0) (getD m (i + 3) 0))
 
 -- "A parameter is `E` and four hex digits."
 abbrev pub numberIn : Value → Parameter
 numberIn (Word e) = Number (record { 0 = e })
 numberIn NotHex = NoNumber
 
-unfoldable pub parameterOf : ℕ → ℕ → ℕ → ℕ → ℕ → Parameter
-parameterOf prefix a b c d = pick (eqb prefix 0x45) (numberIn (valueOf a b c d)) NoNumber
-
--- the parts that begin at place i
-abbrev pub valueAt : ℕ → List ℕ → Value
-valueAt i m = valueOf (getD m i 0) (getD m (i + 1) 0) (getD m (i + 2) 0) (getD m (i + 3) 0)
-
-abbrev pub parameterAt : ℕ → List ℕ → Parameter
-parameterAt i m = parameterOf (getD m i 0) (getD m (i + 1) 0) (getD m (i + 2) 0) (getD m (i + 3) 0) (getD m (i + 4) 0)
+unfoldable pub parameterAt : ℕ → List ℕ → Parameter
+parameterAt i m = pick (eqb (getD m i 0) 0x45) (numberIn (valueAt (i + 1) m)) NoNumber
 
 -- place:    0  1   2  3       7 8  9    12 13 14
 -- ENQUIRY:  04 ADR p  p p p p 05

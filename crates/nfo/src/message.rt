@@ -3,8 +3,8 @@ use hex::Pair;
 use pending::Pending;
 use table::ENumber;
 ghost use mathlib.Core.Path.{_≡_};
-ghost use Prim.Native.Nat.{_+_, _*_};
-ghost use Rattle.nfo.specs.Parts.{valueOf, parameterOf, messageOf};
+ghost use Prim.Native.Nat.{_+_, _*_, _<_};
+ghost use Rattle.nfo.specs.Parts.{valueAt, parameterAt, messageOf};
 
 // What a message names: `E` and four hex digits, or something else.
 pub enum Parameter {
@@ -39,56 +39,46 @@ pub enum Message {
 pub fn read_message(pending: Pending) -> Message
     ensures { λ r. ⌜ r ≡ messageOf (pending .bytes) ⌝ }
 {
-    let adr = pending.bytes[1];
-    if pending.bytes[2] == 0x02 {
+    message_in(&pending.bytes)
+}
+
+fn message_in(m: &[u8; 512]) -> Message
+    ensures { λ r. ⌜ r ≡ messageOf (now (m .entry)) ⌝ }
+{
+    if m[2] == 0x02 {
         return Message::Select {
-            adr,
-            parameter: read_parameter(
-                pending.bytes[3],
-                pending.bytes[4],
-                pending.bytes[5],
-                pending.bytes[6],
-                pending.bytes[7],
-            ),
-            value: read_value(
-                pending.bytes[9],
-                pending.bytes[10],
-                pending.bytes[11],
-                pending.bytes[12],
-            ),
+            adr: m[1],
+            parameter: parameter_at(m, 3),
+            value: value_at(m, 9),
         };
     }
     Message::Enquiry {
-        adr,
-        parameter: read_parameter(
-            pending.bytes[2],
-            pending.bytes[3],
-            pending.bytes[4],
-            pending.bytes[5],
-            pending.bytes[6],
-        ),
+        adr: m[1],
+        parameter: parameter_at(m, 2),
     }
 }
 
-fn read_parameter(prefix: u8, a: u8, b: u8, c: u8, d: u8) -> Parameter
-    ensures { λ r. ⌜ r ≡ parameterOf prefix a b c d ⌝ }
+fn parameter_at(m: &[u8; 512], at: usize) -> Parameter
+    requires { ⌜ at < 500 ⌝ }
+    ensures { λ r. ⌜ r ≡ parameterAt at (now (m .entry)) ⌝ }
 {
-    if prefix != b'E' {
+    if m[at] != b'E' {
         return Parameter::NoNumber;
     }
-    let Value::Word(e) = read_value(a, b, c, d) else {
+    let Value::Word(e) = value_at(m, at + 1) else {
         return Parameter::NoNumber;
     };
     Parameter::Number(ENumber(e))
 }
 
-fn read_value(a: u8, b: u8, c: u8, d: u8) -> Value
-    ensures { λ r. ⌜ r ≡ valueOf a b c d ⌝ }
+fn value_at(m: &[u8; 512], at: usize) -> Value
+    requires { ⌜ at < 504 ⌝ }
+    ensures { λ r. ⌜ r ≡ valueAt at (now (m .entry)) ⌝ }
 {
-    let Pair::Byte(high) = hex::pair_value(a, b) else {
+    let Pair::Byte(high) = hex::pair_value(m[at], m[at + 1]) else {
         return Value::NotHex;
     };
-    let Pair::Byte(low) = hex::pair_value(c, d) else {
+    let Pair::Byte(low) = hex::pair_value(m[at + 2], m[at + 3]) else {
         return Value::NotHex;
     };
     Value::Word(word(high, low))

@@ -1,8 +1,8 @@
--- `nfo::read_value` meets its contract: what `pair_value` told of both pairs is what the definition joins. Assumes nothing.
+-- `nfo::value_at` meets its contract: what `pair_value` told of both pairs is what the definition joins. Assumes nothing.
 use Rattle.nfo.proofs.Parsed.{value-high-none, value-low-none, value-word}
 use borrow.Author.Needs.{needs}
-use Rattle.nfo.proofs.message.read_value.Statement.{statement}
-use Rattle.nfo.proofs.message.read_value.Tie as tie
+use Rattle.nfo.proofs.message.value_at.Statement.{statement}
+use Rattle.nfo.proofs.message.value_at.Tie as tie
 
 returns : tie.Need-returns
 returns c = search value-high-none
@@ -13,14 +13,21 @@ returns-2 c = search value-low-none
 returns-3 : tie.Need-returns-3
 returns-3 c = search value-word
 
-pub read-value-spec : {M : Type 1} → statement M
-read-value-spec =
+pub value-at-spec : {M : Type 1} → statement M
+value-at-spec =
     tie.close
     (tie.spec
+    (λ c. search needs)
+    (λ c. search needs)
+    (λ c. search needs)
     (λ c κs. search needs)
     (λ c. search needs)
     (λ c. search needs)
     returns
+    (λ c. search needs)
+    (λ c. search needs)
+    (λ c. search needs)
+    (λ c. search needs)
     (λ c κs. search needs)
     (λ c. search needs)
     (λ c. search needs)

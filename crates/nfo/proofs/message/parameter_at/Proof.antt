@@ -1,8 +1,8 @@
--- `nfo::read_parameter` meets its contract: the prefix and what `read_value` told of the digits say which case holds. Assumes nothing.
+-- `nfo::parameter_at` meets its contract: the prefix and what `value_at` told of the digits say which case holds. Assumes nothing.
 use Rattle.nfo.proofs.Parsed.{parameter-other, parameter-not-hex, parameter-number}
 use borrow.Author.Needs.{needs}
-use Rattle.nfo.proofs.message.read_parameter.Statement.{statement}
-use Rattle.nfo.proofs.message.read_parameter.Tie as tie
+use Rattle.nfo.proofs.message.parameter_at.Statement.{statement}
+use Rattle.nfo.proofs.message.parameter_at.Tie as tie
 
 returns : tie.Need-returns
 returns c = search parameter-other
@@ -13,11 +13,13 @@ returns-2 c = search parameter-not-hex
 returns-3 : tie.Need-returns-3
 returns-3 c = search parameter-number
 
-pub read-parameter-spec : {M : Type 1} → statement M
-read-parameter-spec =
+pub parameter-at-spec : {M : Type 1} → statement M
+parameter-at-spec =
     tie.close
     (tie.spec
+    (λ c. search needs)
     returns
+    (λ c. search needs)
     (λ c κs. search needs)
     (λ c. search needs)
     (λ c. search needs)
