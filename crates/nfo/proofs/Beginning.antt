@@ -1,5 +1,5 @@
 -- What one byte more does to a beginning is what the scan says it does, so its feeding follows the format. Assumes nothing.
-use mathlib.Core.Path.{_≡_, refl, sym, ap, subst, _∙_}
+use mathlib.Core.Path.{_≡_, refl, sym, _∙_}
 use mathlib.Core.Logic.{_⊎_, inl, inr, ⊎-elim}
 use mathlib.Core.Bool.{Bool, true, false, false≢true}
 use mathlib.Core.List.{List, [], _∷_, _++_}
@@ -10,7 +10,7 @@ use lib.Dec.{eqb, ltb}
 use lib.ListN.{length, getD}
 use Rattle.base.specs.Choice.{pick, both, either}
 use Rattle.base.proofs.Tests.{either-out, either-right, both-true, both-false, either-false, either-same, is-false}
-use Rattle.nfo.specs.Shape.{Kind, any, text, byte, fits, part}
+use Rattle.nfo.specs.Shape.{Kind, any, text, fits, part}
 use Rattle.nfo.specs.Message.{enquiry, select, bccIn, formed, viable}
 use Rattle.nfo.specs.Scan.{fitsAt, stepIn, stepOf}
 use Rattle.nfo.specs.declared.scanning.Step.{Step}

@@ -4,18 +4,18 @@ use mathlib.Core.Path.{_≡_, refl, sym, ap, subst, _∙_}
 use mathlib.Core.Logic.{⊎-elim}
 use mathlib.Core.Bool.{Bool, true, false, true≢false, false≢true}
 use mathlib.Core.List.{List, [], _∷_, _++_}
-use Prim.Native.Nat.{ℕ, _<_, _≤_}
+use Prim.Native.Nat.{ℕ, _<_}
 use native.Mathlib.Omega.{arith}
-use borrow.Author.Tests.{ltb-true, lt-ltb, le-ltb}
+use borrow.Author.Tests.{ltb-true}
 use lib.Dec.{eqb, ltb}
 use lib.ListN.{length, getD, take, drop, take-append-drop}
 use Rattle.base.specs.Choice.{pick}
 use Rattle.base.proofs.Tests.{either-out, both-true, either-same, pick-both}
 use Rattle.stream.specs.Automaton.{turn, feed}
-use Rattle.stream.specs.Scanned.{Seen, further, scanned}
+use Rattle.stream.specs.Scanned.{scanned}
 use Rattle.stream.proofs.Scanned.{further-none}
 use Rattle.pending.specs.declared.Pending.{Pending}
-use Rattle.pending.specs.Held.{held, Sized, emptied, pushed, restarted}
+use Rattle.pending.specs.Held.{held, Sized, emptied, restarted}
 use Rattle.pending.specs.Scanning.{scanFrom, seenIn, Follows}
 use Rattle.pending.proofs.Laws.{sized-emptied, sized-pushed, sized-restarted, held-emptied, held-pushed, held-restarted, held-length, held-at}
 use Rattle.pending.proofs.Scans.{scan-follows}

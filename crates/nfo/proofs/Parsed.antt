@@ -14,7 +14,6 @@ use Rattle.nfo.specs.declared.message.Value.{Value}
 use Rattle.nfo.specs.declared.message.Value.the-variants.{Word, NotHex}
 use Rattle.nfo.specs.declared.message.Parameter.{Parameter}
 use Rattle.nfo.specs.declared.message.Parameter.the-variants.{Number, NoNumber}
-use Rattle.nfo.specs.declared.message.Message.{Message}
 use Rattle.nfo.specs.declared.message.Message.the-variants.{Enquiry, Select}
 use Rattle.pending.specs.declared.Pending.{Pending}
 use Rattle.pending.specs.Held.{held}

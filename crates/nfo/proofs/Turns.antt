@@ -4,8 +4,8 @@ use mathlib.Core.Bool.{Bool, true, false, false≢true}
 use mathlib.Core.List.{List}
 use Prim.Native.Nat.{ℕ, suc, _+_, _-_, _<_, _≤_}
 use native.Mathlib.Omega.{arith}
-use borrow.Author.Tests.{ltb-true, lt-ltb, le-ltb, eq-eqb, ne-eqb}
-use lib.Dec.{eqb, ltb}
+use borrow.Author.Tests.{le-ltb, eq-eqb, ne-eqb}
+use lib.Dec.{ltb}
 use lib.ListN.{length, getD}
 use Rattle.base.specs.Choice.{pick, both}
 use Rattle.base.specs.Bytes.{everyBelow}
@@ -14,7 +14,7 @@ use Rattle.pending.specs.declared.Pending.{Pending}
 use Rattle.pending.specs.Held.{emptied, pushed, restarted}
 use Rattle.nfo.specs.Shape.{Kind, byte, text, any, fits}
 use Rattle.nfo.specs.Message.{enquiry, select, bccIn}
-use Rattle.nfo.specs.Scan.{fitsAt, stepIn, stepOf, again, endsBy, nextBy, stepAfter, ends, fed}
+use Rattle.nfo.specs.Scan.{fitsAt, stepIn, stepOf, again, stepAfter, ends, fed}
 use Rattle.nfo.specs.declared.scanning.Step.{Step}
 use Rattle.nfo.specs.declared.scanning.Step.the-variants.{Keeps, Ends, Checks, Spoils}
 

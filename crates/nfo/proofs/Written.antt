@@ -1,16 +1,23 @@
 -- The replies: what the code's arrays hold, that they fit or do not, and what document 01 says of them. Assumes nothing.
-use mathlib.Core.Path.{_≡_, refl, sym, ap, _∙_}
+use mathlib.Core.Path.{_≡_, refl, ap, _∙_}
 use mathlib.Core.Bool.{true}
 use mathlib.Core.List.{List, [], _∷_, _++_}
 use Prim.Native.Nat.{ℕ, _<_, _≤_}
+use native.Mathlib.Omega.{arith}
+use borrow.Author.Tests.{le-leb}
 use lib.ListN.{length, take, drop, getD}
 use lib.Seq.{take-length}
 use Rattle.base.specs.Buffers.{front, fitting}
 use Rattle.base.proofs.Sets.{fitting-all, fitting-none}
 use Rattle.checks.specs.Bcc.{bccOf}
+use Rattle.base.proofs.Tests.{both-in}
 use Rattle.hex.specs.Hex.{hexOf, digitOf}
-use Rattle.nfo.specs.Message.{bccIn}
+use Rattle.hex.proofs.RoundTrip.{digit-hex, hex-range}
+use Rattle.nfo.specs.Shape.{text, fits, whole}
+use Rattle.nfo.specs.Message.{ADR, bccIn, formed}
 use Rattle.nfo.specs.Replies.{digitsOf, bodyOf, replyOf}
+use Rattle.nfo.proofs.Narrow.{select-body}
+use Rattle.nfo.proofs.Lawful.{select-formed}
 
 -- ---- a message put into a buffer, or not
 module _ (m buf : List ℕ) where
@@ -58,3 +65,17 @@ reply-length adr e w = refl
 pub reply-bcc : (adr e w : ℕ) → getD (replyOf adr e w) 13 0 ≡ bccIn (0x04 ∷ replyOf adr e w)
 unfolding replyOf bodyOf digitsOf hexOf bccIn
 reply-bcc adr e w = refl
+
+-- with 04 in front it is a SELECT: each digit is one of 20h to 7Fh
+digit-text : (n : ℕ) → fits text (digitOf n) ≡ true
+digit-text n =
+    let r = hex-range (digitOf n) (digit-hex n) in
+    both-in (le-leb 0x20 (digitOf n) (omega (arith, r .0))) (le-leb (digitOf n) 0x7F (omega (arith, r .1)))
+
+body-shape : (adr e w : ℕ) → fits ADR adr ≡ true → whole select-body (0x04 ∷ adr ∷ 0x02 ∷ bodyOf e w) ≡ true
+unfolding whole bodyOf digitsOf hexOf
+body-shape adr e w h = simp (h, digit-text)
+
+pub reply-formed : (adr e w : ℕ) → fits ADR adr ≡ true → formed (0x04 ∷ replyOf adr e w) ≡ true
+unfolding replyOf bodyOf digitsOf hexOf bccIn
+reply-formed adr e w h = select-formed (0x04 ∷ adr ∷ 0x02 ∷ bodyOf e w) (body-shape adr e w h)

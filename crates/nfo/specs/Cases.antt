@@ -1,7 +1,14 @@
--- Streams of NFO serial from document 01's cases 3, 5 and 6, and what their reading yields. Assumes nothing.
+-- Document 01's cases, as far as they are NFO serial alone: streams and what their reading yields, messages and their parts, and replies.
+-- Assumes nothing.
 use mathlib.Core.List.{List, [], _∷_, _++_}
 use Prim.Native.Nat.{ℕ}
 use Rattle.stream.specs.Reading.{Yield, waiting, taking}
+use Rattle.nfo.specs.Replies.{replyOf, ackOf, nakOf}
+use Rattle.nfo.specs.declared.message.Value.the-variants.{Word, NotHex}
+use Rattle.nfo.specs.declared.message.Parameter.{Parameter}
+use Rattle.nfo.specs.declared.message.Parameter.the-variants.{Number, NoNumber}
+use Rattle.nfo.specs.declared.message.Message.{Message}
+use Rattle.nfo.specs.declared.message.Message.the-variants.{Enquiry, Select}
 
 -- SELECT Accel, up to its value; then the value's last two digits, 03, and a BCC
 abbrev pub accel : List ℕ → List ℕ
@@ -42,4 +49,35 @@ streams =
     ∷ (accel-0094-short ++ ask, taking 14 ask (waiting 22 []))
     -- a spoiled beginning, a message, and a beginning
     ∷ (0x04 ∷ ask ++ (0x04 ∷ 0x21 ∷ []), taking 1 ask (waiting 9 (0x04 ∷ 0x21 ∷ [])))
+    ∷ []
+
+-- ---- messages, and their parts
+abbrev pub E : ℕ → Parameter
+E n = Number (record { 0 = n })
+
+abbrev pub messages : List (List ℕ × Message)
+messages =
+    -- case 1: "S2's own SELECT"
+    (0x04 ∷ 0x21 ∷ 0x02 ∷ 0x45 ∷ 0x30 ∷ 0x30 ∷ 0x31 ∷ 0x39 ∷ 0x3D ∷ 0x30 ∷ 0x30 ∷ 0x36 ∷ 0x34 ∷ 0x03 ∷ 0x71 ∷ [], Select 0x21 (E 0x0019) (Word 0x0064))
+    -- cases 2, 3 and 5
+    ∷ (ask, Enquiry 0x21 (E 0x001D))
+    ∷ (accel-0064, Select 0x21 (E 0x001D) (Word 0x0064))
+    ∷ (accel-0093, Select 0x21 (E 0x001D) (Word 0x0093))
+    -- case 4: "R-fix1 B1E0h"
+    ∷ (0x04 ∷ 0x21 ∷ 0x02 ∷ 0x45 ∷ 0x30 ∷ 0x30 ∷ 0x33 ∷ 0x39 ∷ 0x3D ∷ 0x42 ∷ 0x31 ∷ 0x45 ∷ 0x30 ∷ 0x03 ∷ 0x77 ∷ [], Select 0x21 (E 0x0039) (Word 0xB1E0))
+    -- "an unknown parameter or non-hex value is still well-formed": `F001D`, and `00a9`
+    ∷ (0x04 ∷ 0x21 ∷ 0x46 ∷ 0x30 ∷ 0x30 ∷ 0x31 ∷ 0x44 ∷ 0x05 ∷ [], Enquiry 0x21 NoNumber)
+    ∷ (accel (0x61 ∷ 0x39 ∷ 0x03 ∷ 0x56 ∷ []), Select 0x21 (E 0x001D) NotHex)
+    ∷ []
+
+-- ---- replies, and their bytes
+abbrev pub replies : List (List ℕ × List ℕ)
+replies =
+    -- case 2: Accel is 50
+    (replyOf 0x21 0x001D 50, 0x21 ∷ 0x02 ∷ 0x45 ∷ 0x30 ∷ 0x30 ∷ 0x31 ∷ 0x44 ∷ 0x3D ∷ 0x30 ∷ 0x30 ∷ 0x33 ∷ 0x32 ∷ 0x03 ∷ 0x0F ∷ [])
+    -- case 9: Accel is 0093h
+    ∷ (replyOf 0x21 0x001D 0x0093, 0x21 ∷ 0x02 ∷ 0x45 ∷ 0x30 ∷ 0x30 ∷ 0x31 ∷ 0x44 ∷ 0x3D ∷ 0x30 ∷ 0x30 ∷ 0x39 ∷ 0x33 ∷ 0x03 ∷ 0x04 ∷ [])
+    -- cases 1 and 3
+    ∷ (nakOf 0x21, 0x21 ∷ 0x15 ∷ [])
+    ∷ (ackOf 0x21, 0x21 ∷ 0x06 ∷ [])
     ∷ []

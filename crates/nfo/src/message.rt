@@ -45,15 +45,16 @@ pub fn read_message(pending: Pending) -> Message
 fn message_in(m: &[u8; 512]) -> Message
     ensures { λ r. ⌜ r ≡ messageOf (now (m .entry)) ⌝ }
 {
+    let adr = m[1];
     if m[2] == 0x02 {
         return Message::Select {
-            adr: m[1],
+            adr,
             parameter: parameter_at(m, 3),
             value: value_at(m, 9),
         };
     }
     Message::Enquiry {
-        adr: m[1],
+        adr,
         parameter: parameter_at(m, 2),
     }
 }

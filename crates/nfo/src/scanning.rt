@@ -58,7 +58,7 @@ pub fn scan(pending: Pending, bytes: &[u8]) -> Scan
             bytes: held,
             len: n,
         },
-        used: i,
+        used: bytes.len(),
         taken: false,
     }
 }

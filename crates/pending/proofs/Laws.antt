@@ -1,12 +1,12 @@
 -- What is held after one byte more, and that the array keeps its length. Assumes nothing.
-use mathlib.Core.Path.{_≡_, refl, ap, _∙_}
-use mathlib.Core.List.{List, [], _∷_, _++_}
-use Prim.Native.Nat.{ℕ, _<_, _≤_}
+use mathlib.Core.Path.{_≡_, refl, _∙_}
+use mathlib.Core.List.{[], _∷_, _++_}
+use Prim.Native.Nat.{ℕ, _<_}
 use native.Mathlib.Numerals.{add-one}
 use native.Mathlib.Omega.{arith}
 use borrow.Author.Tests.{lt-ltb}
 use lib.Dec.{ltb}
-use lib.ListN.{length, getD, take, set, length-set, length-replicate, length-take}
+use lib.ListN.{length, getD, length-set, length-take}
 use lib.Seq.{take-suc-set, getD-take}
 use Rattle.base.proofs.Tests.{pick-both}
 use Rattle.pending.specs.declared.Pending.{Pending}

@@ -12,7 +12,7 @@ use lib.Seq.{drop-cons}
 use Rattle.base.specs.Choice.{pick}
 use Rattle.stream.specs.Format.{Format, Lawful}
 use Rattle.stream.specs.Automaton.{feed}
-use Rattle.stream.specs.Scanned.{Seen, further, scanned}
+use Rattle.stream.specs.Scanned.{further, scanned}
 use Rattle.stream.proofs.Pending.{feed-viable}
 use Rattle.stream.proofs.Scanned.{further-more, scanned-takes, scanned-goes, scanned-end}
 use Rattle.pending.specs.declared.Pending.{Pending}
@@ -42,11 +42,13 @@ module _ (G : Feeding) (p₀ : Pending) (s : List ℕ) (p q : Pending) (i : ℕ)
       → record { pending = q; used = i + 1; taken = true } ≡ scanFrom G p₀ 0 s
   scan-takes inv h n e f = simp (sym e ∙ f, ← n) at (sym (scan-turn G s p i h) ∙ inv .1)
 
--- no byte is left
+-- no byte is left: all were used
 pub scan-done : (G : Feeding) (p₀ : Pending) (s : List ℕ) (p : Pending) (i : ℕ) → Scanning G p₀ s p i → length s ≤ i
-    → record { pending = p; used = i; taken = false } ≡ scanFrom G p₀ 0 s
+    → record { pending = p; used = length s; taken = false } ≡ scanFrom G p₀ 0 s
 unfolding scanFrom
-scan-done G p₀ s p i inv h = sym (ap (scanFrom G p i) (drop-of-length-le s h)) ∙ inv .1
+scan-done G p₀ s p i inv h =
+    let all : i ≡ length s = omega (arith, inv .0) in
+    rw (← all) (sym (ap (scanFrom G p i) (drop-of-length-le s h)) ∙ inv .1)
 
 -- ---- A SCAN IN TWO PARTS is the scan of the whole, in every byte of the array
 pub scan-append : (G : Feeding) (x z : List ℕ) (p : Pending) (n : ℕ) → scanFrom G p n (x ++ z) ≡ scanOn G (scanFrom G p n x) z

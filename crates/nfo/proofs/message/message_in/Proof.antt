@@ -19,6 +19,5 @@ message-in-spec =
     (λ c κs. search needs)
     (λ c κs. search needs)
     returns
-    (λ c. search needs)
     (λ c κs. search needs)
     returns-2)
