@@ -1,0 +1,173 @@
+// What a line says: a command with its numbers, and beside it the bytes that HEX spells.
+use crate::numbers;
+use crate::numbers::Number;
+use crate::words;
+use card::Protocol;
+
+// The bytes of a HEX, with room for all that a line can hold.
+pub type Bytes = [u8; 1350];
+
+// A command of the card's table. `Bytes` and `Call` tell how many bytes HEX spells, `Call` the buffer's size before that.
+pub enum Command {
+    Start(Protocol),
+    Restart,
+    Bytes(usize),
+    Call(usize, usize),
+    Host(Event),
+    State,
+    NotACommand,
+}
+
+// What the host tells the card. A measured number is a word, a negative one in two's complement.
+pub enum Event {
+    Tick(u32),
+    Raise(u32),
+    End(u32),
+    Din1(bool),
+    Parity,
+    Frq(u16),
+    Irms(u32),
+    OpTime(u32),
+}
+
+// How many bytes HEX spells.
+enum Spelling {
+    Bytes(usize),
+    NotHex,
+}
+
+// Puts the bytes that HEX spells at the start of `bytes`. `-` is no bytes at all.
+fn spelt(word: &[u8], bytes: &mut Bytes) -> Spelling {
+    if check::same(word, b"-") {
+        return Spelling::Bytes(0);
+    }
+    let n = hex::decode(word, bytes);
+    if n == 0 {
+        return Spelling::NotHex;
+    }
+    if 1350 < n {
+        return Spelling::NotHex;
+    }
+    if 2 * n != word.len() {
+        return Spelling::NotHex;
+    }
+    Spelling::Bytes(n)
+}
+
+// `restart`, `parity`, `state`
+fn alone(name: &[u8]) -> Command {
+    if check::same(name, b"restart") {
+        return Command::Restart;
+    }
+    if check::same(name, b"parity") {
+        return Command::Host(Event::Parity);
+    }
+    if check::same(name, b"state") {
+        return Command::State;
+    }
+    Command::NotACommand
+}
+
+// `start P`
+fn start(protocol: &[u8]) -> Command {
+    if check::same(protocol, b"nfo") {
+        return Command::Start(Protocol::Nfo);
+    }
+    Command::NotACommand
+}
+
+// `din1 0`, `din1 1`
+fn din1(level: &[u8]) -> Command {
+    let Number::Word(n) = numbers::between(0, 1, level) else {
+        return Command::NotACommand;
+    };
+    Command::Host(Event::Din1(n == 1))
+}
+
+// `frq N`, N from -32768 to 32767
+fn frq(number: &[u8]) -> Command {
+    let Number::Word(n) = numbers::between(32768, 32767, number) else {
+        return Command::NotACommand;
+    };
+    Command::Host(Event::Frq((n % 65536) as u16))
+}
+
+// `irms N`, N from -2147483648 to 2147483647
+fn irms(number: &[u8]) -> Command {
+    let Number::Word(n) = numbers::between(2147483648, 2147483647, number) else {
+        return Command::NotACommand;
+    };
+    Command::Host(Event::Irms(n))
+}
+
+// `tick N`, `raise N`, `end N`, `optime N`: any number of 32 bits
+fn counted(name: &[u8], number: &[u8]) -> Command {
+    let Number::Word(n) = numbers::between(0, u32::MAX, number) else {
+        return Command::NotACommand;
+    };
+    if check::same(name, b"tick") {
+        return Command::Host(Event::Tick(n));
+    }
+    if check::same(name, b"raise") {
+        return Command::Host(Event::Raise(n));
+    }
+    if check::same(name, b"end") {
+        return Command::Host(Event::End(n));
+    }
+    if check::same(name, b"optime") {
+        return Command::Host(Event::OpTime(n));
+    }
+    Command::NotACommand
+}
+
+// A name with one word after it.
+fn with_one(name: &[u8], word: &[u8], bytes: &mut Bytes) -> Command {
+    if check::same(name, b"bytes") {
+        let Spelling::Bytes(n) = spelt(word, bytes) else {
+            return Command::NotACommand;
+        };
+        return Command::Bytes(n);
+    }
+    if check::same(name, b"start") {
+        return start(word);
+    }
+    if check::same(name, b"din1") {
+        return din1(word);
+    }
+    if check::same(name, b"frq") {
+        return frq(word);
+    }
+    if check::same(name, b"irms") {
+        return irms(word);
+    }
+    counted(name, word)
+}
+
+// `call B HEX`
+fn with_two(name: &[u8], size: &[u8], word: &[u8], bytes: &mut Bytes) -> Command {
+    if !check::same(name, b"call") {
+        return Command::NotACommand;
+    }
+    let Number::Word(b) = numbers::between(0, u32::MAX, size) else {
+        return Command::NotACommand;
+    };
+    let Spelling::Bytes(n) = spelt(word, bytes) else {
+        return Command::NotACommand;
+    };
+    Command::Call(b as usize, n)
+}
+
+// The command that the line is. The bytes of its HEX stand at the start of `bytes`.
+pub fn parse(line: &[u8], bytes: &mut Bytes) -> Command {
+    match words::count(line) {
+        1 => alone(line),
+        2 => with_one(words::word(line, 0), words::word(line, 1), bytes),
+        3 => with_two(
+            words::word(line, 0),
+            words::word(line, 1),
+            words::word(line, 2),
+            bytes,
+        ),
+        _ => Command::NotACommand,
+    }
+}

@@ -1,0 +1,44 @@
+// The bench: puts a card on the desk. It reads commands on standard input, one a line, and prints their answers; docs/BENCH.md has the language.
+mod command;
+mod desk;
+mod lines;
+mod numbers;
+mod output;
+mod state;
+mod words;
+
+use card::Card;
+use card::Protocol;
+use lines::Reader;
+use lines::Text;
+use output::Out;
+
+// Answers the line of the first `len` characters of `text`. An empty one is skipped.
+fn turn(out: &mut Out, card: Card, text: &Text, len: usize) -> Card {
+    if len == 0 {
+        return card;
+    }
+    let characters = &text[..];
+    if len <= characters.len() {
+        return desk::answer(out, card, &characters[0..len]);
+    }
+    desk::unknown(out);
+    card
+}
+
+fn main() {
+    let mut scrap = [0u8; 4096];
+    let mut text = [0u8; 2700];
+    let mut out = [0u8; 2048];
+    let mut reader = Reader::new();
+    let mut card = Card::start(Protocol::Nfo);
+    let mut turns = u64::MAX;
+    while turns > 0 {
+        reader = reader.next(&mut scrap, &mut text);
+        if !reader.whole {
+            return;
+        }
+        card = turn(&mut out, card, &text, reader.len);
+        turns -= 1;
+    }
+}

@@ -1,0 +1,67 @@
+// Numbers as words of a command: decimal digits, with `-` in front if negative. Zeros in front change nothing, so `007` is 7, and `-0` is 0.
+// A `+` is no part of a number.
+use hex::Digit;
+
+// What digits come to. All sizes from 2^32 on are too large for every command, and are not told apart.
+enum Size {
+    Is(u64),
+    NoDigits,
+}
+
+// A number within a command's limits, as its word: a negative one in two's complement.
+pub enum Number {
+    Word(u32),
+    Outside,
+}
+
+// One digit more.
+fn grown(size: u64, digit: u8) -> u64 {
+    if size < 4294967296 {
+        size * 10 + digit as u64
+    } else {
+        size
+    }
+}
+
+// The size of decimal digits, one at least.
+fn size_of(characters: &[u8]) -> Size {
+    if characters.len() == 0 {
+        return Size::NoDigits;
+    }
+    let mut size: u64 = 0;
+    let mut i: usize = 0;
+    while i < characters.len() {
+        let Digit::Value(digit) = hex::digit_value(characters[i]) else {
+            return Size::NoDigits;
+        };
+        if 9 < digit {
+            return Size::NoDigits;
+        }
+        size = grown(size, digit);
+        i += 1;
+    }
+    Size::Is(size)
+}
+
+// The word as a number from -`below` to `most`.
+pub fn between(below: u32, most: u32, word: &[u8]) -> Number {
+    if word.len() == 0 {
+        return Number::Outside;
+    }
+    if word[0] == b'-' {
+        let Size::Is(size) = size_of(&word[1..]) else {
+            return Number::Outside;
+        };
+        if size <= below as u64 {
+            return Number::Word(((4294967296 - size) % 4294967296) as u32);
+        }
+        return Number::Outside;
+    }
+    let Size::Is(size) = size_of(word) else {
+        return Number::Outside;
+    };
+    if size <= most as u64 {
+        return Number::Word(size as u32);
+    }
+    Number::Outside
+}
