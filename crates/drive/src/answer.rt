@@ -20,7 +20,7 @@ pub enum Answer {
 
 impl Refusal {
     // Document 01's number.
-    pub fn number(self) -> u32
+    pub(crate) fn number(self) -> u32
         ensures { λ r. ⌜ r ≡ refusalNumber self ⌝ }
     {
         match self {

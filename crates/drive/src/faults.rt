@@ -23,7 +23,7 @@ fn lowest(flags: u32) -> u32
 
 impl Plant {
     // Whether the drive runs: at MODE 2 by DIN1 while no flag stands, at MODE 3 by SCMD.
-    pub fn running(self) -> bool
+    pub(crate) fn running(self) -> bool
         ensures { λ r. ⌜ r ≡ runs self ⌝ }
     {
         if self.mode == 2 {
@@ -39,7 +39,7 @@ impl Plant {
     }
 
     // Inv St: the lowest flagged number, else the number of the MODE, standing or running.
-    pub fn status(self) -> u32
+    pub(crate) fn status(self) -> u32
         ensures { λ r. ⌜ r ≡ statusOf self ⌝ }
     {
         if self.flags != 0 {

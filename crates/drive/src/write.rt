@@ -122,7 +122,7 @@ impl Plant {
     }
 
     // Whether a row may be made to hold a word now: refusals 3 to 7, in this order.
-    pub fn permit(self, row: Row, word: u32) -> Permit
+    pub(crate) fn permit(self, row: Row, word: u32) -> Permit
         ensures { λ r. ⌜ r ≡ permitOf self (row .0) word ⌝ }
     {
         if read_only(row) {
@@ -144,7 +144,7 @@ impl Plant {
     }
 
     // The plant once a change is made. A different MODE stops the drive; rows that are not stored change nothing.
-    pub fn apply(mut self, change: Change) -> Plant
+    pub(crate) fn apply(mut self, change: Change) -> Plant
         ensures { λ r. ⌜ r ≡ applied (change .row .0) (change .word) self ⌝ }
     {
         let row = change.row;
