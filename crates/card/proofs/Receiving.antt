@@ -2,10 +2,10 @@
 use mathlib.Core.Path.{_≡_, refl, sym}
 use mathlib.Core.Bool.{true, false, not}
 use mathlib.Core.List.{List}
-use Prim.Native.Nat.{ℕ, _%_, _≤_, _<_}
+use Prim.Native.Nat.{ℕ, _+_, _%_, _≤_, _<_}
 use native.Mathlib.Omega.{arith}
 use borrow.Author.Tests.{lt-ltb, le-ltb, not-true, not-false}
-use lib.Dec.{eqb}
+use lib.Dec.{eqb, ltb}
 use lib.ListN.{length}
 use Rattle.base.specs.Buffers.{front, fitting}
 use Rattle.base.proofs.Sets.{front-none, fitting-all}
@@ -14,6 +14,7 @@ use Rattle.pending.specs.declared.Pending.{Pending}
 use Rattle.pending.specs.declared.Scan.{Scan}
 use Rattle.pending.specs.Held.{emptied}
 use Rattle.pending.specs.Scanning.{scanFrom}
+use Rattle.pending.proofs.Scans.{scan-used, scan-uses}
 use Rattle.nfo.specs.declared.message.Message.{Message}
 use Rattle.nfo.specs.Parts.{messageOf}
 use Rattle.nfo.specs.Scan.{feeding}
@@ -24,7 +25,7 @@ use Rattle.nfo_service.specs.Serve as Serve
 use Rattle.nfo_service.specs.Reply.{adrIn, parameterIn, numberOf, repliedBy, replied}
 use Rattle.drive.specs.declared.answer.Answer.{Answer}
 use Rattle.drive.specs.declared.answer.Answer.the-variants.{Told, Written, NotOurs, Refused}
-use Rattle.card.specs.Receive.{turnOf, sumAfter, taken, waiting, received}
+use Rattle.card.specs.Receive.{Received, turnOf, sumAfter, taken, waiting, received}
 use Rattle.card.specs.declared.state.Card.{Card}
 use Rattle.card.specs.declared.receive.Turn.{Turn}
 use Rattle.card.specs.declared.outcome.Outcome.the-variants as Outcomes
@@ -80,3 +81,26 @@ module _ (c : Card) (bytes before : List ℕ) where
       → (r ≡ turnOf (received c bytes (length before))) × (out ≡ front (received c bytes (length before) .reply) before)
   unfolding received
   takes-one scan r out h d t e = simp (le-ltb (length before) 19 h, ← d, not-false (scan .taken) t) e
+
+-- ---- the bytes used: none that is not there, and one at least where there is one and the buffer is no shorter than 19
+module _ (c : Card) (bytes : List ℕ) where
+  pub received-used : (room : ℕ) → received c bytes room .used ≤ length bytes
+  unfolding received taken waiting
+  received-used room =
+      let most : scanFrom feeding (c .port .pending) 0 bytes .used ≤ 0 + length bytes = scan-used feeding bytes (c .port .pending) 0 .1 in
+      pick-both (λ (r : Received). r .used ≤ length bytes) (ltb room 19) (λ e. omega arith)
+      (λ e. pick-both (λ (r : Received). r .used ≤ length bytes) (scanFrom feeding (c .port .pending) 0 bytes .taken) (λ k. omega arith) (λ k. omega arith))
+
+  pub received-uses : (room : ℕ) → 19 ≤ room → 0 < length bytes → 0 < received c bytes room .used
+  unfolding received taken waiting
+  received-uses room h l =
+      let least : 0 < scanFrom feeding (c .port .pending) 0 bytes .used = scan-uses feeding bytes (c .port .pending) 0 l in
+      simp (le-ltb room 19 h)
+      (pick-both (λ (r : Received). 0 < r .used) (scanFrom feeding (c .port .pending) 0 bytes .taken) (λ k. least) (λ k. least))
+
+  -- a reply has 14 bytes at most
+  pub received-short : (room : ℕ) → length (received c bytes room .reply) ≤ 14
+  unfolding received taken waiting
+  received-short room =
+      pick-both (λ (r : Received). length (r .reply) ≤ 14) (ltb room 19) (λ e. omega arith)
+      (λ e. pick-both (λ (r : Received). length (r .reply) ≤ 14) (scanFrom feeding (c .port .pending) 0 bytes .taken) (λ k. reply-short _ _) (λ k. omega arith))

@@ -10,6 +10,7 @@ use native.Mathlib.Omega.{arith}
 use lib.ListN.{length, drop, getD, drop-of-length-le}
 use lib.Seq.{drop-cons}
 use Rattle.base.specs.Choice.{pick}
+use Rattle.base.proofs.Tests.{pick-both}
 use Rattle.stream.specs.Format.{Format, Lawful}
 use Rattle.stream.specs.Automaton.{feed}
 use Rattle.stream.specs.Scanned.{further, scanned}
@@ -76,6 +77,19 @@ scan-after G (b ∷ s) p m n = by (G .ends p b) (omega arith) (scan-after G s (G
         ≡ after m (pick t (record { pending = G .next p b; used = n + 1; taken = true }) (scanFrom G (G .next p b) (n + 1) s))
     by true e ih = rw e
     by false e ih = rw e ih
+
+-- ---- the bytes used: none that is not there, and one at least where there is one
+pub scan-used : (G : Feeding) (s : List ℕ) (p : Pending) (n : ℕ) → (n ≤ scanFrom G p n s .used) × (scanFrom G p n s .used ≤ n + length s)
+unfolding scanFrom
+scan-used G [] p n = (omega arith, omega arith)
+scan-used G (b ∷ s) p n =
+    let ih : (n + 1 ≤ scanFrom G (G .next p b) (n + 1) s .used) × (scanFrom G (G .next p b) (n + 1) s .used ≤ n + 1 + length s) = scan-used G s (G .next p b) (n + 1) in
+    pick-both (λ (r : Scan). (n ≤ r .used) × (r .used ≤ n + length (b ∷ s))) (G .ends p b) (λ e. (omega arith, omega arith)) (λ e. (omega arith, omega arith))
+
+pub scan-uses : (G : Feeding) (s : List ℕ) (p : Pending) (n : ℕ) → 0 < length s → n < scanFrom G p n s .used
+unfolding scanFrom
+scan-uses G [] p n h = absurd (omega arith)
+scan-uses G (b ∷ s) p n h = pick-both (λ (r : Scan). n < r .used) (G .ends p b) (λ e. omega arith) (λ e. omega (arith, scan-used G s (G .next p b) (n + 1) .0))
 
 -- ---- A FEEDING THAT FOLLOWS A FORMAT
 module _ (F : Format) (L : Lawful F) (G : Feeding) (W : Follows F G) where
