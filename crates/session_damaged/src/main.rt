@@ -1,0 +1,4 @@
+// The session program on a long, damaged stream. `tests/session/make.py` makes the files `stdin` and `stdout`, the second by a model of its own.
+fn main() {
+    nfo_session::run();
+}
