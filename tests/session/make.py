@@ -32,31 +32,52 @@ def select(address, parameter, value):
     return bytes([0x04, address + 32, 0x02]) + body + bytes([card.bcc(body)])
 
 
-WRITABLE = [parameter for parameter, (_, allowed, _) in card.ROWS.items() if allowed is not None]
-READ_ONLY = [parameter for parameter, (_, allowed, _) in card.ROWS.items() if allowed is None]
-QUIET = [parameter for parameter in WRITABLE if parameter != "E00A9"]  # a new SiAdr has a kind of its own
+# the numbers at the ends of what a row allows, and those just past them
+EDGES = {
+    "E0008": [0, 1, 10000, 10001],
+    "E0009": [0, 1, 1000, 1001],
+    "E000F": [0, 1, 500, 501],
+    "E0010": [4, 5, 32765, 32766],
+    "E0015": [0, 1, 100, 101],
+    "E0005": [-1, 0, 999, 1000],
+    "E0018": [0, 100, 999, 1000, 3000, 3001],
+    "E001D": [1, 2, 5000, 5001],
+    "E001C": [1, 2, 5000, 5001],
+    "E0030": [-1, 0, 3, 4],
+    "E000D": [-1, 0, 1500, 1501],
+    "E000B": [-1, 0, 1500, 1501],
+    "E0039": [-20001, -20000, 20000, 20001, -32768, 32767],
+    "E0052": [-2, -1, 0, 1, 2],
+    "E00A8": [0, 16, 17, 32, 64, 127, 128, 256],
+    "E00AA": [-1, 0, 1, 2],
+    "E00AB": [-1, 0, 250, 251],
+    "E001E": [-9001, -9000, -1501, -1500, -201, -200, 200, 201, 1500, 1501, 9000, 9001],
+    "E0029": [0, 1, 2, 3, 4],
+    "E00AD": [0, 1, 128, 129, 130, 257, 258],
+}
+ROWS = list(card.ROWS)
+WRITABLE = list(EDGES)  # but for SiAdr, which has a kind of its own
+READ_ONLY = ["E00E8", "E00E9", "E00AC", "E00B6"]
 UNKNOWN = ["E0019", "E00A7", "E00FF", "EFFFF", "e001d", "E001d", "F001D", "     ", "~~~~~", "E 01D"]
 NOT_HEX = ["00g4", "00a4", "    ", "-001", "+001", "0x64", "00 4", "\x7f\x7f\x7f\x7f"]
-EDGES = [-32768, -20001, -20000, -9001, -9000, -1501, -1500, -201, -200, -2, -1, 0, 1, 2, 3, 4, 5, 16, 31, 95, 96, 99, 100, 101, 128, 129,
-         200, 201, 250, 251, 257, 500, 501, 999, 1000, 1001, 1500, 1501, 3000, 3001, 5000, 5001, 9000, 9001, 10000, 10001, 20000, 20001,
-         32765, 32766, 32767]
 ENDS_IN_04 = [select(1, "E001D", value) for value in range(2, 5001) if select(1, "E001D", value)[-1] == 0x04]
 
 
 def told(draw):
-    return enquiry(1, draw.one_of(list(card.ROWS)))
+    return enquiry(1, draw.one_of(ROWS))
 
 
 def written(draw):
-    return select(1, draw.one_of(QUIET), draw.one_of(EDGES))
+    parameter = draw.one_of(WRITABLE)
+    return select(1, parameter, draw.one_of(EDGES[parameter]))
 
 
 def small(draw):
-    return select(1, draw.one_of(QUIET), draw.below(130))
+    return select(1, draw.one_of(WRITABLE), draw.below(130))
 
 
 def wide(draw):
-    return select(1, draw.one_of(QUIET), draw.below(65536))
+    return select(1, draw.one_of(WRITABLE), draw.below(65536))
 
 
 def message(draw):
@@ -81,13 +102,14 @@ def other_address(draw):
 
 
 def address_0(draw):
-    return draw.one_of([enquiry(0, draw.one_of(list(card.ROWS))), select(0, draw.one_of(QUIET), draw.one_of(EDGES))])
+    parameter = draw.one_of(WRITABLE)
+    return draw.one_of([enquiry(0, draw.one_of(ROWS)), select(0, parameter, draw.one_of(EDGES[parameter]))])
 
 
 def to_all(draw):
     """A broadcast write, done or refused, or a broadcast read; then a question that shows what it did."""
-    parameter = draw.one_of(QUIET)
-    first = draw.one_of([select(95, parameter, draw.one_of(EDGES)), enquiry(95, parameter), select(95, draw.one_of(UNKNOWN), 1), select(95, parameter, "0O00")])
+    parameter = draw.one_of(WRITABLE)
+    first = draw.one_of([select(95, parameter, draw.one_of(EDGES[parameter])), enquiry(95, parameter), select(95, draw.one_of(UNKNOWN), 1), select(95, parameter, "0O00")])
     return first + enquiry(1, parameter)
 
 
@@ -99,7 +121,7 @@ def new_address(draw):
 
 def new_mode(draw):
     """A different Mode zeroes Setpoint, the same one does not."""
-    return select(1, "E0030", draw.below(4)) + select(1, "E001E", draw.one_of(EDGES)) + select(1, "E0030", draw.below(4)) + enquiry(1, "E001E")
+    return select(1, "E0030", draw.below(4)) + select(1, "E001E", draw.one_of(EDGES["E001E"])) + select(1, "E0030", draw.below(4)) + enquiry(1, "E001E")
 
 
 def drive(draw):
@@ -152,6 +174,15 @@ KINDS = [told, told, written, written, small, wide, no_row, read_only, not_hex, 
          ends_in_04, lost, lost, damaged, damaged, doubled, begun, noise, noise, others_reply]
 
 
+def table():
+    """Each row is asked, written at all its edges, and asked again; Setpoint at each Mode; and SiAdr at its own edges."""
+    asked = b"".join(enquiry(1, parameter) for parameter in ROWS)
+    edges = b"".join(select(1, parameter, number) + enquiry(1, parameter) for parameter in WRITABLE for number in EDGES[parameter])
+    modes = b"".join(select(1, "E0030", mode) + b"".join(select(1, "E001E", number) for number in EDGES["E001E"]) for mode in (0, 1, 2, 3))
+    address = b"".join(select(0, "E00A9", number) + enquiry(0, "E00A9") for number in (-1, 96, 95, 94, 0, 1))
+    return asked + edges + modes + address
+
+
 def stream(seed, pieces):
     """Every kind of piece in turn, then kinds drawn at random, and at the end a message that is not whole."""
     draw = Draw(seed)
@@ -160,7 +191,7 @@ def stream(seed, pieces):
 
 
 def main():
-    heard = stream(9, 480)
+    heard = table() + stream(9, 480)
     with open(os.path.join(sys.argv[1], "stdin"), "wb") as file:
         file.write(heard)
     with open(os.path.join(sys.argv[1], "stdout"), "w") as file:
