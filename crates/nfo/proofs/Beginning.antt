@@ -144,7 +144,7 @@ module _ (s : List ℕ) (b : ℕ) where
       rw (le-ltb 2 (length s) l, inside select Checks (length s) b (omega arith), inside enquiry Ends (length s) b (omega arith))
       (go (eqb b 0x02) (fits (getD select (length s) any) b) (fits (getD enquiry (length s) any) b)
       (rw (viable-step s b, h .enq, h .sel) (both-open b (length s) l))
-      (rw (formed-step s b, h .enq, h .sel, ne-eqb (suc (length s)) 8 (omega arith), ne-eqb (suc (length s)) 15 (omega arith), both-false, both-false)))
+      (rw (formed-step s b, h .enq, h .sel, ne-eqb (suc (length s)) 8 (omega arith), ne-eqb (suc (length s)) 15 (omega arith), both-false _, both-false _)))
     where
       go : (u f g : Bool) → viable (s ++ b ∷ []) ≡ pick u f g → formed (s ++ b ∷ []) ≡ false → Does s b (pick u (pick f Keeps Spoils) (pick g Keeps Spoils))
       go true true g v w = does-keep w v

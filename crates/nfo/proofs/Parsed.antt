@@ -16,11 +16,15 @@ use Rattle.nfo.specs.declared.message.Parameter.{Parameter}
 use Rattle.nfo.specs.declared.message.Parameter.the-variants.{Number, NoNumber}
 use Rattle.nfo.specs.declared.message.Message.the-variants.{Enquiry, Select}
 use Rattle.pending.specs.declared.Pending.{Pending}
-use Rattle.pending.specs.Held.{held}
-use Rattle.nfo.specs.Message.{enquiry, select, formed}
+use Rattle.pending.specs.Held.{held, Sized}
+use Rattle.pending.specs.Scanning.{scanFrom}
+use Rattle.pending.proofs.Scans.{scan-leaves}
+use Rattle.nfo.specs.Message.{enquiry, select, formed, viable, nfo}
+use Rattle.nfo.specs.Scan.{feeding}
 use Rattle.nfo.specs.Parts.{valueAt, parameterAt, messageOf}
 use Rattle.nfo.proofs.Shape.{whole-length, whole-at}
-use Rattle.nfo.proofs.Lawful.{formed-shape}
+use Rattle.nfo.proofs.Lawful.{formed-shape, nfo-lawful}
+use Rattle.nfo.proofs.Follows.{nfo-follows}
 
 -- ---- a value, by what its pairs spell
 module _ (m : List ℕ) (i : ℕ) (x y : Pair) (p : x ≡ pairValue (getD m i 0) (getD m (i + 1) 0)) where
@@ -95,3 +99,8 @@ message-alone m z e = ⊎-elim
 pub message-held : (p : Pending) → formed (held p) ≡ true → messageOf (p .bytes) ≡ messageOf (held p)
 unfolding held
 message-held p e = ap messageOf (sym (take-append-drop (p .len) (p .bytes))) ∙ message-alone (take (p .len) (p .bytes)) (drop (p .len) (p .bytes)) e
+
+-- and what a scan took is
+pub scan-message : (p : Pending) (s : List ℕ) → Sized p → viable (held p) ≡ true → scanFrom feeding p 0 s .taken ≡ true
+    → messageOf (scanFrom feeding p 0 s .pending .bytes) ≡ messageOf (held (scanFrom feeding p 0 s .pending))
+scan-message p s size v t = message-held (scanFrom feeding p 0 s .pending) (scan-leaves nfo nfo-lawful feeding nfo-follows s p 0 size v .0 t)

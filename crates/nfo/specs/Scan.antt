@@ -1,5 +1,6 @@
--- What a scan makes of one byte. Only the count of the bytes pending, the byte at place 2 and the byte that comes are looked at, and at the
--- end of a SELECT the BCC. Assumes nothing.
+-- What a scan makes of one byte. Of what is pending only the count, the byte at place 2 and, at the end of a SELECT, the bytes of the BCC
+-- are looked at. Where a beginning is pending, this is document 01's stream call (the law `scan-is`). Any other bits are taken for a
+-- beginning by the same count and byte, and are dropped where they are more than the shape has. Assumes nothing.
 use mathlib.Core.Bool.{Bool, true, false}
 use mathlib.Core.List.{List}
 use Prim.Native.Nat.{ℕ, suc}

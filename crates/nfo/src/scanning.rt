@@ -29,9 +29,11 @@ struct Fed {
     taken: bool,
 }
 
-// Scans for the first message: uses the bytes up to its end, or all. What is pending is taken for a beginning: of its bytes only the
-// one at place 2 is looked at again, and at the end of a SELECT those that the BCC is made of. Fifteen bytes or more are no beginning,
-// and the next byte drops them.
+// Scans for the first message: uses the bytes up to its end, or all. A byte is tested once, at its place.
+//
+// What is pending is taken for a beginning: of its bytes only the one at place 2 is looked at again, and at the end of a SELECT those
+// that the BCC is made of. Bits that are no beginning are taken for one too, by their count and that byte; where they are more than
+// the shape has, the next byte drops them.
 pub fn scan(pending: Pending, bytes: &[u8]) -> Scan
     ensures { λ r. ⌜ r ≡ scanFrom feeding pending 0 (now (bytes .entry)) ⌝ }
 {
