@@ -1,4 +1,4 @@
--- What one byte more does to a beginning is what the scan says it does, so its feeding follows the format. Assumes nothing.
+-- What one byte more does to a beginning: the scan's step, which looks at few bytes, is what the format says of all. Assumes nothing.
 use mathlib.Core.Path.{_≡_, refl, sym, _∙_}
 use mathlib.Core.Logic.{_⊎_, inl, inr, ⊎-elim}
 use mathlib.Core.Bool.{Bool, true, false, false≢true}
@@ -144,7 +144,7 @@ module _ (s : List ℕ) (b : ℕ) where
       rw (le-ltb 2 (length s) l, inside select Checks (length s) b (omega arith), inside enquiry Ends (length s) b (omega arith))
       (go (eqb b 0x02) (fits (getD select (length s) any) b) (fits (getD enquiry (length s) any) b)
       (rw (viable-step s b, h .enq, h .sel) (both-open b (length s) l))
-      (rw (formed-step s b, h .enq, h .sel, ne-eqb (suc (length s)) 8 (omega arith), ne-eqb (suc (length s)) 15 (omega arith), both-false _, both-false _)))
+      (rw (formed-step s b, h .enq, h .sel, ne-eqb (suc (length s)) 8 (omega arith), ne-eqb (suc (length s)) 15 (omega arith)) (simp both-false)))
     where
       go : (u f g : Bool) → viable (s ++ b ∷ []) ≡ pick u f g → formed (s ++ b ∷ []) ≡ false → Does s b (pick u (pick f Keeps Spoils) (pick g Keeps Spoils))
       go true true g v w = does-keep w v
