@@ -15,7 +15,7 @@ use Rattle.pending.specs.Held.{empty, emptied, pushed, restarted}
 use Rattle.pending.specs.Scanning.{scanFrom}
 use Rattle.nfo.specs.Message.{enquiry, select, bccIn}
 use Rattle.nfo.specs.Scan.{fitsAt, stepIn, stepOf, again, ends, fed}
-use Rattle.nfo.specs.Parts.{valueOf, parameterOf, messageOf}
+use Rattle.nfo.specs.Parts.{valueAt, parameterAt, messageOf}
 use Rattle.nfo.specs.Replies.{digitsOf, bodyOf, replyOf, ackOf, nakOf}
 use Rattle.nfo_service.specs.Serve.{toUs, reachesUs, rowNamed, enquiryServed, stops, wroteServed, rowSelected, selectServed, served}
 use Rattle.nfo_service.specs.Reply.{repliedBy, replied}
@@ -25,5 +25,5 @@ use Rattle.card.specs.Receive.{taken, waiting, received}
 use Rattle.demands.specs.Cases.{said, Case, cases}
 
 pub cases-hold : map (λ (k : Case). said 3 (started Nfo) (k .bytes)) cases ≡ map (λ (k : Case). k .right) cases
-unfolding cases rows lineAt startWords firstRow rowOfE twos numberOf within member belowLimt aboveMagn atMode setpointAllows allows allowedAt isHex digitValue digitOf pairValue hexOf bccOf Drive.started active flagStands runs statusOf only14 stopped wordAt told readOnly boundsOf allowed held permitted permitOf stored applied written empty emptied pushed restarted scanFrom bccIn fitsAt stepIn stepOf again ends fed valueOf parameterOf messageOf digitsOf bodyOf replyOf ackOf nakOf toUs reachesUs rowNamed enquiryServed stops wroteServed rowSelected selectServed served repliedBy replied started taken waiting received enquiry select
+unfolding cases rows lineAt startWords firstRow rowOfE twos numberOf within member belowLimt aboveMagn atMode setpointAllows allows allowedAt isHex digitValue digitOf pairValue hexOf bccOf Drive.started active flagStands runs statusOf only14 stopped wordAt told readOnly boundsOf allowed held permitted permitOf stored applied written empty emptied pushed restarted scanFrom bccIn fitsAt stepIn stepOf again ends fed valueAt parameterAt messageOf digitsOf bodyOf replyOf ackOf nakOf toUs reachesUs rowNamed enquiryServed stops wroteServed rowSelected selectServed served repliedBy replied started taken waiting received enquiry select
 cases-hold = refl
