@@ -1,12 +1,14 @@
 -- What a lent buffer holds after runs of stores: one after the other, and through a part that was lent. Assumes nothing.
 use mathlib.Core.Path.{_≡_, refl, sym, ap, _∙_}
-use mathlib.Core.List.{List, [], _∷_, _++_}
+use mathlib.Core.List.{List, [], _∷_, _++_, append-nil}
 use Prim.Native.Nat.{ℕ, suc, _+_, _-_, _≤_, _<_}
 use native.Mathlib.Nat.{zero-add, add-zero, add-suc, suc-add}
 use native.Mathlib.Omega.{arith}
 use lib.ListN.{length, take, drop, set, length-set, length-append, length-take, length-drop, take-append-drop}
 use lib.Seq.{sets, sets-eq, set-append-left, set-out, length-take-le, take-at}
 use borrow.Author.Tests.{lt-ltb, le-ltb}
+use lib.ListN.{length, take, drop, set, length-set, length-append, length-take, length-drop, take-append-drop, drop-of-length-le}
+use lib.Seq.{sets, sets-eq, set-append-left, set-out, length-take-le, take-all, take-at}
 use borrow.Rule.Slice.PartMut.{midOf, postOf, putMid}
 use Rattle.base.specs.Buffers.{front, fitting}
 
@@ -51,12 +53,20 @@ sets-out (v ∷ vs) l i h = rw (set-out l i v h) (sets-out vs l (suc i) (omega a
 pub take-sets : (vs l : List ℕ) → length vs ≤ length l → take (length vs) (sets l 0 vs) ≡ vs
 take-sets vs l h = ap (take (length vs)) (sets-eq vs l 0 (omega arith)) ∙ take-at vs (drop (0 + length vs) l) (length vs) refl
 
+-- stores in a part that was lent from a to the end are stores in the whole, also where they pass the end
+pub sets-rest : (a : ℕ) (xs vs : List ℕ) → a ≤ length xs → putMid a (length xs - a) xs (sets (midOf a (length xs - a) xs) 0 vs) ≡ sets xs a vs
+sets-rest a xs vs h =
+    let all : length (drop a xs) ≤ length xs - a = omega (arith, length-drop a xs) in
+    (λ i. take a xs ++ (sets (take-all (length xs - a) (drop a xs) all i) 0 vs ++ drop-of-length-le (drop a xs) all i))
+    ∙ ap (λ (l : List ℕ). take a xs ++ l) (append-nil (sets (drop a xs) 0 vs))
+    ∙ sets-append-right vs (take a xs) (drop a xs) 0
+    ∙ ap (λ (l : List ℕ). sets l (length (take a xs) + 0) vs) (take-append-drop a xs)
+    ∙ ap (λ (n : ℕ). sets xs n vs) (add-zero (length (take a xs)) ∙ length-take-le a xs h)
+
 -- a byte, then what a part from the second on was lent for
-pub headed : (r u l : List ℕ) (a : ℕ) → length u + 1 ≤ length r → l ≡ sets (midOf 1 (length (set r 0 a) - 1) (set r 0 a)) 0 u
+pub headed : (r u l : List ℕ) (a : ℕ) → 1 ≤ length r → l ≡ sets (midOf 1 (length (set r 0 a) - 1) (set r 0 a)) 0 u
     → putMid 1 (length (set r 0 a) - 1) (set r 0 a) l ≡ sets r 0 (a ∷ u)
-headed r u l a h q =
-    ap (putMid 1 (length (set r 0 a) - 1) (set r 0 a)) q
-    ∙ sets-part 1 (length (set r 0 a) - 1) 0 (set r 0 a) u (simp length-set (omega arith)) (simp (length-take, length-drop, length-set) (omega arith))
+headed r u l a h q = ap (putMid 1 (length (set r 0 a) - 1) (set r 0 a)) q ∙ sets-rest 1 (set r 0 a) u (simp length-set h)
 
 -- two stores more, after a run
 pub tailed : (r u l : List ℕ) (m x y : ℕ) → l ≡ sets r 0 u → m ≡ length u → set (set l m x) (m + 1) y ≡ sets r 0 (u ++ (x ∷ y ∷ []))

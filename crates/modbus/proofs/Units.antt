@@ -1,0 +1,85 @@
+-- What the writer of data units stores: each answer's unit, from the bytes that the code put together. Assumes nothing.
+use mathlib.Core.Path.{_≡_, sym, ap, _∙_}
+use mathlib.Core.List.{List, [], _∷_}
+use Prim.Native.Nat.{ℕ, suc, _+_, _-_, _/_, _%_, _≤_}
+use native.Mathlib.Omega.{arith}
+use mir.Syntax.{w64}
+use mir.Val.{Fits}
+use lib.Bits.{bitOr}
+use lib.ListN.{length, set}
+use lib.Seq.{sets, length-sets}
+use borrow.Rule.Slice.PartMut.{midOf, putMid}
+use Rattle.base.proofs.Sets.{sets-out, headed}
+use Rattle.modbus.specs.Words.{wordBytes, longBytes}
+use Rattle.modbus.specs.Answer.{unitOf}
+use Rattle.table.specs.declared.labels.Register.{Register}
+use Rattle.modbus.specs.declared.answers.Answer.{Answer}
+use Rattle.modbus.specs.declared.answers.Answer.the-variants.{Word, Long, WroteOne, WroteMany, Exception}
+
+-- a copy of some bytes tells the count n and makes `before` into `now`: where they are the answer's unit, so do count and stores
+abbrev pub Stored : Answer → ℕ → List ℕ → List ℕ → Type 0
+Stored answer n before now = (n ≡ length (unitOf answer)) × (now ≡ sets before 0 (unitOf answer))
+
+module _ (answer : Answer) (n : ℕ) (before now : List ℕ) where
+  copied : (bytes : List ℕ) → bytes ≡ unitOf answer → n ≡ length bytes → now ≡ sets before 0 bytes → Stored answer n before now
+  copied bytes e p q = (p ∙ ap length e, q ∙ ap (sets before 0) e)
+
+  pub put-word : (f w h l : ℕ) → answer ≡ Word f w → h ≡ w / 256 → l ≡ w % 256
+      → n ≡ length (f ∷ 2 ∷ h ∷ l ∷ []) → now ≡ sets before 0 (f ∷ 2 ∷ h ∷ l ∷ []) → Stored answer n before now
+  unfolding unitOf wordBytes
+  put-word f w h l a i j p q = copied (f ∷ 2 ∷ h ∷ l ∷ []) (rw (a, i, j)) p q
+
+  pub put-long : (f v h l h₂ l₂ : ℕ) → answer ≡ Long f v → h ≡ v % 65536 / 256 → l ≡ v % 65536 % 256 → h₂ ≡ v / 65536 / 256 → l₂ ≡ v / 65536 % 256
+      → n ≡ length (f ∷ 4 ∷ h ∷ l ∷ h₂ ∷ l₂ ∷ []) → now ≡ sets before 0 (f ∷ 4 ∷ h ∷ l ∷ h₂ ∷ l₂ ∷ []) → Stored answer n before now
+  unfolding unitOf longBytes wordBytes
+  put-long f v h l h₂ l₂ a i j i₂ j₂ p q = copied (f ∷ 4 ∷ h ∷ l ∷ h₂ ∷ l₂ ∷ []) (rw (a, i, j, i₂, j₂)) p q
+
+  -- the two echoes are a function and two words
+  echoed : (f r w h l h₂ l₂ : ℕ) → unitOf answer ≡ f ∷ r / 256 ∷ r % 256 ∷ w / 256 ∷ w % 256 ∷ [] → h ≡ r / 256 → l ≡ r % 256 → h₂ ≡ w / 256 → l₂ ≡ w % 256
+      → n ≡ length (f ∷ h ∷ l ∷ h₂ ∷ l₂ ∷ []) → now ≡ sets before 0 (f ∷ h ∷ l ∷ h₂ ∷ l₂ ∷ []) → Stored answer n before now
+  echoed f r w h l h₂ l₂ a i j i₂ j₂ p q = copied (f ∷ h ∷ l ∷ h₂ ∷ l₂ ∷ []) (sym (rw (i, j, i₂, j₂) a)) p q
+
+  pub put-one : (r : Register) (w h l h₂ l₂ : ℕ) → answer ≡ WroteOne r w → h ≡ r .0 / 256 → l ≡ r .0 % 256 → h₂ ≡ w / 256 → l₂ ≡ w % 256
+      → n ≡ length (6 ∷ h ∷ l ∷ h₂ ∷ l₂ ∷ []) → now ≡ sets before 0 (6 ∷ h ∷ l ∷ h₂ ∷ l₂ ∷ []) → Stored answer n before now
+  unfolding unitOf wordBytes
+  put-one r w h l h₂ l₂ a i j i₂ j₂ p q = echoed 6 (r .0) w h l h₂ l₂ (rw a) i j i₂ j₂ p q
+
+  pub put-many : (r : Register) (w h l h₂ l₂ : ℕ) → answer ≡ WroteMany r w → h ≡ r .0 / 256 → l ≡ r .0 % 256 → h₂ ≡ w / 256 → l₂ ≡ w % 256
+      → n ≡ length (16 ∷ h ∷ l ∷ h₂ ∷ l₂ ∷ []) → now ≡ sets before 0 (16 ∷ h ∷ l ∷ h₂ ∷ l₂ ∷ []) → Stored answer n before now
+  unfolding unitOf wordBytes
+  put-many r w h l h₂ l₂ a i j i₂ j₂ p q = echoed 16 (r .0) w h l h₂ l₂ (rw a) i j i₂ j₂ p q
+
+  pub put-exception : (f e : ℕ) → answer ≡ Exception f e → n ≡ length (bitOr f 0x80 ∷ e ∷ []) → now ≡ sets before 0 (bitOr f 0x80 ∷ e ∷ []) → Stored answer n before now
+  unfolding unitOf
+  put-exception f e a p q = copied (bitOr f 0x80 ∷ e ∷ []) (rw a) p q
+
+-- no unit has more than 6 bytes
+pub unit-short : (answer : Answer) → length (unitOf answer) ≤ 6
+unfolding unitOf longBytes wordBytes
+unit-short (Word f w) = omega arith
+unit-short (Long f v) = omega arith
+unit-short (WroteOne r w) = omega arith
+unit-short (WroteMany r k) = omega arith
+unit-short (Exception f e) = omega arith
+
+-- ---- an address before it
+pub body-fits : (answer : Answer) (n : ℕ) → n ≡ length (unitOf answer) → Fits w64 (n + 1)
+body-fits answer n e = omega (arith, unit-short answer)
+
+pub body-count : (n : ℕ) (unit : List ℕ) → n ≡ length unit → n + 1 ≡ suc (length unit)
+body-count n unit e = omega arith
+
+-- through the part of the slice `before` from its second byte on, which was lent and came back as l
+module _ (address : ℕ) (unit before l : List ℕ) (some : length before ≡ 0 → ⊥)
+    (e : l ≡ sets (midOf 1 (length (set before 0 address) - 1) (set before 0 address)) 0 unit) where
+  pub body-stores : putMid 1 (length (set before 0 address) - 1) (set before 0 address) l ≡ sets before 0 (address ∷ unit)
+  body-stores = headed before unit l address (omega arith) e
+
+  pub body-kept : length (putMid 1 (length (set before 0 address) - 1) (set before 0 address) l) ≡ length before
+  body-kept = ap length body-stores ∙ length-sets before 0 (address ∷ unit)
+
+-- nothing is stored in a slice of no bytes
+pub body-none : (address : ℕ) (unit before now : List ℕ) → length before ≡ 0 → now ≡ sets before 0 unit → now ≡ sets before 0 (address ∷ unit)
+body-none address unit before now h e =
+    let none : length before ≤ 0 = omega arith in
+    e ∙ sets-out unit before 0 none ∙ sym (sets-out (address ∷ unit) before 0 none)

@@ -1,0 +1,5 @@
+pub mod Words
+pub mod Request
+pub mod Answer
+pub mod Reply
+pub mod Rtu

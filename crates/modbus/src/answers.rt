@@ -1,0 +1,97 @@
+// The data unit of a reply, and the one writer of it.
+use crate::words::high;
+use crate::words::low;
+use table::Register;
+ghost use mathlib.Core.Path.{_≡_};
+ghost use mathlib.Core.List.{_∷_};
+ghost use lib.ListN.{length, set};
+ghost use lib.Seq.{sets};
+ghost use Rattle.modbus.specs.Answer.{unitOf};
+
+// What a data unit answers.
+pub enum Answer {
+    // 03 or 04, of a row of one register
+    Word { function: u8, word: u16 },
+    // 03 or 04, of a row of two registers
+    Long { function: u8, value: u32 },
+    // 06, repeated
+    WroteOne { register: Register, word: u16 },
+    // 16, its register and its count repeated
+    WroteMany { first: Register, count: u16 },
+    // a refusal, of any function
+    Exception { function: u8, code: u8 },
+}
+
+// A store that leaves the slice alone where it lies past the end.
+fn put(slice: &mut [u8], at: usize, byte: u8)
+    ensures { λ _. ⌜ now (slice .exit) ≡ set (now (slice .entry)) at byte ⌝ }
+{
+    if at < slice.len() {
+        slice[at] = byte;
+    }
+}
+
+// Copies the bytes to the start of `out`, as far as they fit.
+fn copy_in(bytes: &[u8], out: &mut [u8]) -> usize
+    ensures count { λ r. ⌜ r ≡ length (now (bytes .entry)) ⌝ }
+    ensures lent { λ _. ⌜ now (out .exit) ≡ sets (now (out .entry)) 0 (now (bytes .entry)) ⌝ }
+{
+    let mut i: usize = 0;
+    while i < bytes.len() {
+        put(out, i, bytes[i]);
+        i += 1;
+    }
+    i
+}
+
+// Puts the answer's data unit at the start of `out`, as far as it fits, and tells its length.
+pub fn put_unit(answer: Answer, out: &mut [u8]) -> usize
+    ensures count { λ r. ⌜ r ≡ length (unitOf answer) ⌝ }
+    ensures lent { λ _. ⌜ now (out .exit) ≡ sets (now (out .entry)) 0 (unitOf answer) ⌝ }
+{
+    match answer {
+        Answer::Word { function, word } => {
+            let unit = [function, 2, high(word), low(word)];
+            copy_in(&unit, out)
+        }
+        Answer::Long { function, value } => {
+            let first = (value % 65536) as u16;
+            let second = (value / 65536) as u16;
+            let unit = [
+                function,
+                4,
+                high(first),
+                low(first),
+                high(second),
+                low(second),
+            ];
+            copy_in(&unit, out)
+        }
+        Answer::WroteOne { register, word } => {
+            let at = register.0;
+            let unit = [6, high(at), low(at), high(word), low(word)];
+            copy_in(&unit, out)
+        }
+        Answer::WroteMany { first, count } => {
+            let at = first.0;
+            let unit = [16, high(at), low(at), high(count), low(count)];
+            copy_in(&unit, out)
+        }
+        Answer::Exception { function, code } => {
+            let unit = [function | 0x80, code];
+            copy_in(&unit, out)
+        }
+    }
+}
+
+// Puts the address and, behind it, the answer's data unit at the start of `out`, as far as they fit, and tells how many bytes these are.
+pub fn put_body(address: u8, answer: Answer, out: &mut [u8]) -> usize
+    ensures count { λ r. ⌜ r ≡ length (address ∷ unitOf answer) ⌝ }
+    ensures lent { λ _. ⌜ now (out .exit) ≡ sets (now (out .entry)) 0 (address ∷ unitOf answer) ⌝ }
+{
+    if out.len() == 0 {
+        return put_unit(answer, out) + 1;
+    }
+    out[0] = address;
+    put_unit(answer, &mut out[1..]) + 1
+}

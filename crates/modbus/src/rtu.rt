@@ -1,0 +1,106 @@
+// The RTU frame: reading a request's, and writing a reply.
+use crate::answers::Answer;
+use crate::answers::put_body;
+use crate::requests::Request;
+use crate::requests::Span;
+use crate::requests::request_of;
+use crate::words::byte_at;
+ghost use mathlib.Core.Path.{_≡_};
+ghost use lib.ListN.{length};
+ghost use Rattle.base.specs.Buffers.{front};
+ghost use Rattle.modbus.specs.Answer.{unitOf};
+ghost use Rattle.modbus.specs.Rtu.{frameHolds, addressIn, unitIn, rtuOf, dataOf, registerSpan, registerData};
+ghost use Rattle.modbus.specs.Reply.{replyIn};
+
+// Whether a frame's length and CRC are right.
+pub fn frame_holds(frame: &[u8]) -> bool
+    ensures { λ r. ⌜ r ≡ frameHolds (now (frame .entry)) ⌝ }
+{
+    if frame.len() < 4 {
+        return false;
+    }
+    if 256 < frame.len() {
+        return false;
+    }
+    checks::crc_holds(frame)
+}
+
+// The address of a frame; of no bytes at all, 0.
+pub fn address_in(frame: &[u8]) -> u8
+    ensures { λ r. ⌜ r ≡ addressIn (now (frame .entry)) ⌝ }
+{
+    byte_at(frame, 0)
+}
+
+// The data unit of a frame, as a part of it: all but the address and the CRC. Of fewer than three bytes, an empty part.
+pub fn unit_in(frame: &[u8]) -> &[u8]
+    ensures { λ r. ⌜ now r ≡ unitIn (now (frame .entry)) ⌝ }
+{
+    if frame.len() < 3 {
+        return &frame[0..0];
+    }
+    let end = frame.len() - 2;
+    &frame[1..end]
+}
+
+// Where in its frame the register data of a request lies: behind the register of a 06, behind the byte count of a 16; else from 0 to 0.
+fn data_of(request: Request) -> Span
+    ensures { λ r. ⌜ r ≡ dataOf request ⌝ }
+{
+    match request {
+        Request::One {
+            register: _,
+            word: _,
+        } => Span { from: 4, to: 6 },
+        Request::Many {
+            first: _,
+            count,
+            place: _,
+        } => Span {
+            from: 7,
+            to: 7 + 2 * (count as usize),
+        },
+        Request::Read {
+            function: _,
+            first: _,
+            count: _,
+        } => Span { from: 0, to: 0 },
+        Request::Malformed(_) => Span { from: 0, to: 0 },
+        Request::Unknown(_) => Span { from: 0, to: 0 },
+    }
+}
+
+// Where the register data of a well-made 06 or 16 lies in its frame; else from 0 to 0.
+fn register_span(frame: &[u8]) -> Span
+    ensures { λ r. ⌜ r ≡ registerSpan (now (frame .entry)) ⌝ }
+{
+    if !frame_holds(frame) {
+        return Span { from: 0, to: 0 };
+    }
+    data_of(request_of(unit_in(frame)))
+}
+
+// The register data of a well-made 06 or 16, whatever its address, as a part of the frame; of other bytes, an empty part.
+pub fn register_data(frame: &[u8]) -> &[u8]
+    ensures { λ r. ⌜ now r ≡ registerData (now (frame .entry)) ⌝ }
+{
+    let span = register_span(frame);
+    let from = span.from;
+    let to = span.to;
+    &frame[from..to]
+}
+
+// Puts the reply's frame at the start of `reply` and tells its length. A buffer under 19 bytes is left as it is, and the length is 0.
+pub fn put_rtu(address: u8, answer: Answer, reply: &mut [u8]) -> usize
+    ensures count { λ r. ⌜ r ≡ length (replyIn (length (now (reply .entry))) (rtuOf address (unitOf answer))) ⌝ }
+    ensures lent { λ _. ⌜ now (reply .exit) ≡ front (replyIn (length (now (reply .entry))) (rtuOf address (unitOf answer))) (now (reply .entry)) ⌝ }
+{
+    if reply.len() < 19 {
+        return 0;
+    }
+    let end = put_body(address, answer, reply);
+    let crc = checks::crc(&reply[0..end]);
+    reply[end] = (crc % 256) as u8;
+    reply[end + 1] = (crc / 256) as u8;
+    end + 2
+}
