@@ -14,7 +14,7 @@ use Rattle.modbus.specs.Words.{wordBytes, longBytes}
 use Rattle.modbus.specs.Answer.{unitOf}
 use Rattle.table.specs.declared.labels.Register.{Register}
 use Rattle.modbus.specs.declared.answers.Answer.{Answer}
-use Rattle.modbus.specs.declared.answers.Answer.the-variants.{Word, Long, WroteOne, WroteMany, Exception}
+use Rattle.modbus.specs.declared.answers.Answer.the-variants.{Word, Long, Echo, Exception}
 
 -- a copy of some bytes tells the count n and makes `before` into `now`: where they are the answer's unit, so do count and stores
 abbrev pub Stored : Answer → ℕ → List ℕ → List ℕ → Type 0
@@ -34,20 +34,10 @@ module _ (answer : Answer) (n : ℕ) (before now : List ℕ) where
   unfolding unitOf longBytes wordBytes
   put-long f v h l h₂ l₂ a i j i₂ j₂ p q = copied (f ∷ 4 ∷ h ∷ l ∷ h₂ ∷ l₂ ∷ []) (rw (a, i, j, i₂, j₂)) p q
 
-  -- the two echoes are a function and two words
-  echoed : (f r w h l h₂ l₂ : ℕ) → unitOf answer ≡ f ∷ r / 256 ∷ r % 256 ∷ w / 256 ∷ w % 256 ∷ [] → h ≡ r / 256 → l ≡ r % 256 → h₂ ≡ w / 256 → l₂ ≡ w % 256
+  pub put-echo : (f : ℕ) (r : Register) (w h l h₂ l₂ : ℕ) → answer ≡ Echo f r w → h ≡ r .0 / 256 → l ≡ r .0 % 256 → h₂ ≡ w / 256 → l₂ ≡ w % 256
       → n ≡ length (f ∷ h ∷ l ∷ h₂ ∷ l₂ ∷ []) → now ≡ sets before 0 (f ∷ h ∷ l ∷ h₂ ∷ l₂ ∷ []) → Stored answer n before now
-  echoed f r w h l h₂ l₂ a i j i₂ j₂ p q = copied (f ∷ h ∷ l ∷ h₂ ∷ l₂ ∷ []) (sym (rw (i, j, i₂, j₂) a)) p q
-
-  pub put-one : (r : Register) (w h l h₂ l₂ : ℕ) → answer ≡ WroteOne r w → h ≡ r .0 / 256 → l ≡ r .0 % 256 → h₂ ≡ w / 256 → l₂ ≡ w % 256
-      → n ≡ length (6 ∷ h ∷ l ∷ h₂ ∷ l₂ ∷ []) → now ≡ sets before 0 (6 ∷ h ∷ l ∷ h₂ ∷ l₂ ∷ []) → Stored answer n before now
   unfolding unitOf wordBytes
-  put-one r w h l h₂ l₂ a i j i₂ j₂ p q = echoed 6 (r .0) w h l h₂ l₂ (rw a) i j i₂ j₂ p q
-
-  pub put-many : (r : Register) (w h l h₂ l₂ : ℕ) → answer ≡ WroteMany r w → h ≡ r .0 / 256 → l ≡ r .0 % 256 → h₂ ≡ w / 256 → l₂ ≡ w % 256
-      → n ≡ length (16 ∷ h ∷ l ∷ h₂ ∷ l₂ ∷ []) → now ≡ sets before 0 (16 ∷ h ∷ l ∷ h₂ ∷ l₂ ∷ []) → Stored answer n before now
-  unfolding unitOf wordBytes
-  put-many r w h l h₂ l₂ a i j i₂ j₂ p q = echoed 16 (r .0) w h l h₂ l₂ (rw a) i j i₂ j₂ p q
+  put-echo f r w h l h₂ l₂ a i j i₂ j₂ p q = copied (f ∷ h ∷ l ∷ h₂ ∷ l₂ ∷ []) (rw (a, i, j, i₂, j₂)) p q
 
   pub put-exception : (f e : ℕ) → answer ≡ Exception f e → n ≡ length (bitOr f 0x80 ∷ e ∷ []) → now ≡ sets before 0 (bitOr f 0x80 ∷ e ∷ []) → Stored answer n before now
   unfolding unitOf
@@ -58,8 +48,7 @@ pub unit-short : (answer : Answer) → length (unitOf answer) ≤ 6
 unfolding unitOf longBytes wordBytes
 unit-short (Word f w) = omega arith
 unit-short (Long f v) = omega arith
-unit-short (WroteOne r w) = omega arith
-unit-short (WroteMany r k) = omega arith
+unit-short (Echo f r w) = omega arith
 unit-short (Exception f e) = omega arith
 
 -- ---- an address before it

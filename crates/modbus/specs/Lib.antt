@@ -2,4 +2,3 @@ pub mod Words
 pub mod Request
 pub mod Answer
 pub mod Reply
-pub mod Rtu

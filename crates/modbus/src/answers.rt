@@ -11,15 +11,26 @@ ghost use Rattle.modbus.specs.Answer.{unitOf};
 // What a data unit answers.
 pub enum Answer {
     // 03 or 04, of a row of one register
-    Word { function: u8, word: u16 },
+    Word {
+        function: u8,
+        word: u16,
+    },
     // 03 or 04, of a row of two registers
-    Long { function: u8, value: u32 },
-    // 06, repeated
-    WroteOne { register: Register, word: u16 },
-    // 16, its register and its count repeated
-    WroteMany { first: Register, count: u16 },
+    Long {
+        function: u8,
+        value: u32,
+    },
+    // 06 or 16: the request's function, register and word or count
+    Echo {
+        function: u8,
+        register: Register,
+        number: u16,
+    },
     // a refusal, of any function
-    Exception { function: u8, code: u8 },
+    Exception {
+        function: u8,
+        code: u8,
+    },
 }
 
 // A store that leaves the slice alone where it lies past the end.
@@ -67,14 +78,13 @@ pub fn put_unit(answer: Answer, out: &mut [u8]) -> usize
             ];
             copy_in(&unit, out)
         }
-        Answer::WroteOne { register, word } => {
+        Answer::Echo {
+            function,
+            register,
+            number,
+        } => {
             let at = register.0;
-            let unit = [6, high(at), low(at), high(word), low(word)];
-            copy_in(&unit, out)
-        }
-        Answer::WroteMany { first, count } => {
-            let at = first.0;
-            let unit = [16, high(at), low(at), high(count), low(count)];
+            let unit = [function, high(at), low(at), high(number), low(number)];
             copy_in(&unit, out)
         }
         Answer::Exception { function, code } => {

@@ -1,9 +1,7 @@
-// Modbus: the data unit, which RTU and ASCII share, and the RTU frame around it.
-// `request_of` takes a request's data unit apart, `put_unit` writes an answer's; `frame_holds`, `address_in` and `unit_in` read a frame,
-// `register_data` hands out a part of it, and `put_rtu` writes a reply.
+// The data unit of Modbus, which RTU and ASCII share: `request_of` takes a request's apart, `put_unit` writes an answer's and `put_body` the address
+// with it. `long_at` reads the register bytes of a 16.
 mod answers;
 mod requests;
-mod rtu;
 mod words;
 
 pub use answers::Answer;
@@ -12,10 +10,4 @@ pub use answers::put_unit;
 pub use requests::Request;
 pub use requests::Span;
 pub use requests::request_of;
-pub use rtu::address_in;
-pub use rtu::frame_holds;
-pub use rtu::put_rtu;
-pub use rtu::register_data;
-pub use rtu::unit_in;
 pub use words::long_at;
-pub use words::word_at;

@@ -3,7 +3,7 @@ use crate::words::byte_at;
 use crate::words::word_at;
 use table::Register;
 ghost use mathlib.Core.Path.{_≡_};
-ghost use Rattle.modbus.specs.Request.{reading, one, many, requestOf};
+ghost use Rattle.modbus.specs.Request.{reads, writes, requestOf};
 
 // A part of a slice: the place of its first byte, and the place after its last.
 pub struct Span {
@@ -36,61 +36,34 @@ pub enum Request {
     Unknown(u8),
 }
 
-fn reading(function: u8, size: usize, first: u16, count: u16) -> Request
-    ensures { λ r. ⌜ r ≡ reading function size first count ⌝ }
+// Whether a read of `count` registers has a unit of `size` bytes.
+fn reads(size: usize, count: u16) -> bool
+    ensures { λ r. ⌜ r ≡ reads size count ⌝ }
 {
     if size != 5 {
-        return Request::Malformed(function);
+        return false;
     }
     if count < 1 {
-        return Request::Malformed(function);
+        return false;
     }
-    if 125 < count {
-        return Request::Malformed(function);
-    }
-    Request::Read {
-        function,
-        first: Register(first),
-        count,
-    }
+    count <= 125
 }
 
-fn one(size: usize, register: u16, word: u16) -> Request
-    ensures { λ r. ⌜ r ≡ one size register word ⌝ }
-{
-    if size != 5 {
-        return Request::Malformed(6);
-    }
-    Request::One {
-        register: Register(register),
-        word,
-    }
-}
-
-fn many(size: usize, first: u16, count: u16, bytes: u8) -> Request
-    ensures { λ r. ⌜ r ≡ many size first count bytes ⌝ }
+// Whether a 16 of `count` registers has a unit of `size` bytes and the byte count `bytes`.
+fn writes(size: usize, count: u16, bytes: u8) -> bool
+    ensures { λ r. ⌜ r ≡ writes size count bytes ⌝ }
 {
     if count < 1 {
-        return Request::Malformed(16);
+        return false;
     }
     if 123 < count {
-        return Request::Malformed(16);
+        return false;
     }
     let twice = 2 * (count as usize);
     if (bytes as usize) != twice {
-        return Request::Malformed(16);
+        return false;
     }
-    if size != 6 + twice {
-        return Request::Malformed(16);
-    }
-    Request::Many {
-        first: Register(first),
-        count,
-        place: Span {
-            from: 6,
-            to: 6 + twice,
-        },
-    }
+    size == 6 + twice
 }
 
 // What the data unit `unit` asks: its function, label and numbers, or that it is malformed or of no known function.
@@ -98,12 +71,39 @@ pub fn request_of(unit: &[u8]) -> Request
     ensures { λ r. ⌜ r ≡ requestOf (now (unit .entry)) ⌝ }
 {
     let function = byte_at(unit, 0);
-    let first = word_at(unit, 1);
-    let second = word_at(unit, 3);
+    let register = Register(word_at(unit, 1));
+    let number = word_at(unit, 3);
     match function {
-        3 | 4 => reading(function, unit.len(), first, second),
-        6 => one(unit.len(), first, second),
-        16 => many(unit.len(), first, second, byte_at(unit, 5)),
+        3 | 4 => {
+            if reads(unit.len(), number) {
+                return Request::Read {
+                    function,
+                    first: register,
+                    count: number,
+                };
+            }
+            Request::Malformed(function)
+        }
+        6 => {
+            if unit.len() == 5 {
+                return Request::One {
+                    register,
+                    word: number,
+                };
+            }
+            Request::Malformed(6)
+        }
+        16 => {
+            if writes(unit.len(), number, byte_at(unit, 5)) {
+                let to = 6 + 2 * (number as usize);
+                return Request::Many {
+                    first: register,
+                    count: number,
+                    place: Span { from: 6, to },
+                };
+            }
+            Request::Malformed(16)
+        }
         _ => Request::Unknown(function),
     }
 }

@@ -21,7 +21,7 @@ pub fn word_at(bytes: &[u8], at: usize) -> u16
     256 * (byte_at(bytes, at) as u16) + (byte_at(bytes, at + 1) as u16)
 }
 
-// The 32-bit value at a place, low word first. Bytes past the end count as 0.
+// The 32-bit value at a place, low word first. Bytes past the end count as 0, so the last register of a unit is its own word.
 pub fn long_at(bytes: &[u8], at: usize) -> u32
     ensures { λ r. ⌜ r ≡ longAt (now (bytes .entry)) at ⌝ }
 {

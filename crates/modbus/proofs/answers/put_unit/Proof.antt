@@ -1,6 +1,6 @@
 -- `modbus::answers::put_unit` meets its contract: in each arm the bytes that are copied are the unit of that answer. Assumes nothing.
 use borrow.Author.Needs.{needs}
-use Rattle.modbus.proofs.Units.{put-word, put-long, put-one, put-many, put-exception}
+use Rattle.modbus.proofs.Units.{put-word, put-long, put-echo, put-exception}
 use Rattle.modbus.proofs.answers.put_unit.Statement.{statement}
 use Rattle.modbus.proofs.answers.put_unit.Tie as tie
 
@@ -70,32 +70,11 @@ copy-in-requires-3 c κs = search needs
 enum-known-answer-4 : tie.Need-enum-known-answer-4
 enum-known-answer-4 c = search needs
 
-high-requires-6 : tie.Need-high-requires-6
-high-requires-6 c κs = search needs
-
-low-requires-6 : tie.Need-low-requires-6
-low-requires-6 c κs = search needs
-
-high-requires-7 : tie.Need-high-requires-7
-high-requires-7 c κs = search needs
-
-low-requires-7 : tie.Need-low-requires-7
-low-requires-7 c κs = search needs
-
 slice-aggregate-copy-in-4 : tie.Need-slice-aggregate-copy-in-4
 slice-aggregate-copy-in-4 c = search needs
 
 copy-in-requires-4 : tie.Need-copy-in-requires-4
 copy-in-requires-4 c κs = search needs
-
-enum-known-answer-5 : tie.Need-enum-known-answer-5
-enum-known-answer-5 c = search needs
-
-slice-aggregate-copy-in-5 : tie.Need-slice-aggregate-copy-in-5
-slice-aggregate-copy-in-5 c = search needs
-
-copy-in-requires-5 : tie.Need-copy-in-requires-5
-copy-in-requires-5 c κs = search needs
 
 same-length : tie.Need-same-length
 same-length c = search needs
@@ -104,7 +83,8 @@ returns : tie.Need-returns
 returns c =
     let p = c .before .before in
     let q = p .before .before .before in
-    put-word _ _ _ _ _ _ _ _ (q .before .before .before .answer .given .1) (q .before .high .ensures) (q .low .ensures) (p .copy-in .ensures .0) (p .copy-in .ensures .1)
+    put-word _ _ _ _ _ _ _ _ (q .before .before .before .answer .given .1) (q .before .high .ensures) (q .low .ensures)
+    (p .copy-in .ensures .0) (p .copy-in .ensures .1)
 
 same-length-2 : tie.Need-same-length-2
 same-length-2 c = search needs
@@ -124,7 +104,7 @@ returns-3 : tie.Need-returns-3
 returns-3 c =
     let p = c .before .before in
     let q = p .before .before .before in
-    put-one _ _ _ _ _ _ _ _ _ _ (q .before .before .before .before .before .answer3 .given .1)
+    put-echo _ _ _ _ _ _ _ _ _ _ _ (q .before .before .before .before .before .answer3 .given .1)
     (q .before .before .before .high4 .ensures) (q .before .before .low4 .ensures) (q .before .high5 .ensures) (q .low5 .ensures)
     (p .copy-in3 .ensures .0) (p .copy-in3 .ensures .1)
 
@@ -134,18 +114,7 @@ same-length-4 c = search needs
 returns-4 : tie.Need-returns-4
 returns-4 c =
     let p = c .before .before in
-    let q = p .before .before .before in
-    put-many _ _ _ _ _ _ _ _ _ _ (q .before .before .before .before .before .answer4 .given .1)
-    (q .before .before .before .high6 .ensures) (q .before .before .low6 .ensures) (q .before .high7 .ensures) (q .low7 .ensures)
-    (p .copy-in4 .ensures .0) (p .copy-in4 .ensures .1)
-
-same-length-5 : tie.Need-same-length-5
-same-length-5 c = search needs
-
-returns-5 : tie.Need-returns-5
-returns-5 c =
-    let p = c .before .before in
-    put-exception _ _ _ _ _ _ (p .before .before .before .before .answer5 .given .1) (p .copy-in5 .ensures .0) (p .copy-in5 .ensures .1)
+    put-exception _ _ _ _ _ _ (p .before .before .before .before .answer4 .given .1) (p .copy-in4 .ensures .0) (p .copy-in4 .ensures .1)
 
 pub put-unit-spec : {M : Type 1} → statement M
 put-unit-spec =
@@ -173,15 +142,8 @@ put-unit-spec =
     slice-aggregate-copy-in-3
     copy-in-requires-3
     enum-known-answer-4
-    high-requires-6
-    low-requires-6
-    high-requires-7
-    low-requires-7
     slice-aggregate-copy-in-4
     copy-in-requires-4
-    enum-known-answer-5
-    slice-aggregate-copy-in-5
-    copy-in-requires-5
     same-length
     returns
     same-length-2
@@ -189,6 +151,4 @@ put-unit-spec =
     same-length-3
     returns-3
     same-length-4
-    returns-4
-    same-length-5
-    returns-5)
+    returns-4)

@@ -1,9 +1,9 @@
--- `modbus::rtu::register_data` meets its contract: the span that `register_span` tells lies within the frame, and is handed back as a part of it.
+-- `rtu::register_data` meets its contract: the span that `register_span` tells lies within the frame, and is handed back as a part of it.
 -- Assumes nothing.
 use borrow.Author.Needs.{needs}
-use Rattle.modbus.proofs.Frames.{told-within, data-told}
-use Rattle.modbus.proofs.rtu.register_data.Statement.{statement}
-use Rattle.modbus.proofs.rtu.register_data.Tie as tie
+use Rattle.rtu.proofs.Frames.{told-within, data-told}
+use Rattle.rtu.proofs.register_data.Statement.{statement}
+use Rattle.rtu.proofs.register_data.Tie as tie
 
 register-span-requires : tie.Need-register-span-requires
 register-span-requires c κs = search needs

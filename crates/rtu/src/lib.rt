@@ -1,16 +1,16 @@
-// The RTU frame: reading a request's, and writing a reply.
-use crate::answers::Answer;
-use crate::answers::put_body;
-use crate::requests::Request;
-use crate::requests::Span;
-use crate::requests::request_of;
-use crate::words::byte_at;
+// The RTU frame of Modbus: address, data unit, CRC.
+// `frame_holds`, `address_in` and `unit_in` read a request's frame, `register_data` hands out a part of it, and `put_rtu` writes a reply's.
+use modbus::Answer;
+use modbus::Request;
+use modbus::Span;
+use modbus::put_body;
+use modbus::request_of;
 ghost use mathlib.Core.Path.{_≡_};
 ghost use lib.ListN.{length};
 ghost use Rattle.base.specs.Buffers.{front};
 ghost use Rattle.modbus.specs.Answer.{unitOf};
-ghost use Rattle.modbus.specs.Rtu.{frameHolds, addressIn, unitIn, rtuOf, dataOf, registerSpan, registerData};
+ghost use Rattle.rtu.specs.Rtu.{frameHolds, addressIn, unitIn, rtuOf, dataOf, registerSpan, registerData};
 ghost use Rattle.modbus.specs.Reply.{replyIn};
 
 // Whether a frame's length and CRC are right.
 pub fn frame_holds(frame: &[u8]) -> bool
@@ -29,7 +29,10 @@ pub fn frame_holds(frame: &[u8]) -> bool
 pub fn address_in(frame: &[u8]) -> u8
     ensures { λ r. ⌜ r ≡ addressIn (now (frame .entry)) ⌝ }
 {
-    byte_at(frame, 0)
+    if frame.len() < 1 {
+        return 0;
+    }
+    frame[0]
 }
 
 // The data unit of a frame, as a part of it: all but the address and the CRC. Of fewer than three bytes, an empty part.

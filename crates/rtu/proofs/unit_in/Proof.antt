@@ -1,8 +1,8 @@
--- `modbus::rtu::unit_in` meets its contract: the bytes from the second to the third-last are the body without its first. Assumes nothing.
+-- `rtu::unit_in` meets its contract: the bytes from the second to the third-last are the body without its first. Assumes nothing.
 use borrow.Author.Needs.{needs}
-use Rattle.modbus.proofs.Frames.{unit-none, unit-part}
-use Rattle.modbus.proofs.rtu.unit_in.Statement.{statement}
-use Rattle.modbus.proofs.rtu.unit_in.Tie as tie
+use Rattle.rtu.proofs.Frames.{unit-none, unit-part}
+use Rattle.rtu.proofs.unit_in.Statement.{statement}
+use Rattle.rtu.proofs.unit_in.Tie as tie
 
 sub-result : tie.Need-sub-result
 sub-result c = search needs

@@ -1,5 +1,5 @@
 -- What the code's tests and calls show of RTU frames, and that a frame's parts lie within it. Assumes nothing.
-use mathlib.Core.Path.{_≡_, sym, ap, _∙_}
+use mathlib.Core.Path.{_≡_, refl, sym, ap, _∙_}
 use mathlib.Core.Bool.{true, false}
 use mathlib.Core.List.{List, [], _∷_}
 use Prim.Native.Nat.{ℕ, suc, _+_, _-_, _*_, _≤_, _<_}
@@ -7,15 +7,21 @@ use native.Mathlib.Omega.{arith}
 use borrow.Author.Tests.{eqb-true, leb-true}
 use lib.Dec.{leb, eqb}
 use lib.ListN.{length, take, drop, getD, length-drop, drop-of-length-le}
-use Rattle.base.specs.Choice.{both, either}
+use Rattle.base.specs.Choice.{either}
 use Rattle.base.proofs.Tests.{both-out, pick-both}
 use Rattle.checks.specs.Crc.{bodyOf, crcHolds}
 use Rattle.checks.proofs.Laws.{body-length}
-use Rattle.modbus.specs.Rtu.{frameHolds, unitIn, partOf, dataOf, registerSpan, registerData}
+use Rattle.rtu.specs.Rtu.{frameHolds, addressIn, unitIn, partOf, dataOf, registerSpan, registerData}
 use Rattle.modbus.specs.Words.{wordAt}
-use Rattle.modbus.specs.Request.{between, span, reading, one, many, requestOf}
+use Rattle.modbus.specs.Request.{between, span, reads, writes, asked, requestOf}
 use Rattle.modbus.specs.declared.requests.Span.{Span}
 use Rattle.modbus.specs.declared.requests.Request.{Request}
+
+-- ---- the address
+pub address-none : (f : List ℕ) → length f < 1 → 0 ≡ addressIn f
+unfolding addressIn
+address-none [] h = refl
+address-none (x ∷ f) h = absurd (omega arith)
 
 -- ---- the data unit
 pub unit-none : (f : List ℕ) → length f < 3 → [] ≡ unitIn f
@@ -48,29 +54,21 @@ module _ (n : ℕ) where
   none-within : Within (n + 3) (span 0 0)
   none-within = (omega arith, omega arith)
 
-  reading-within : (f a k : ℕ) → DataWithin (reading f n a k)
-  unfolding reading
-  reading-within f a k = pick-both DataWithin (both (eqb n 5) (between 1 125 k)) (λ _. none-within) (λ _. none-within)
-
-  one-within : (a w : ℕ) → DataWithin (one n a w)
-  unfolding one
-  one-within a w = pick-both DataWithin (eqb n 5) (λ e. (omega arith, omega (arith, eqb-true n 5 e))) (λ _. none-within)
-
-  many-within : (a k m : ℕ) → DataWithin (many n a k m)
-  unfolding many
-  many-within a k m =
-      pick-both DataWithin (both (between 1 123 k) (both (eqb m (2 * k)) (eqb n (6 + 2 * k))))
+  asked-within : (f a k m : ℕ) → DataWithin (asked n f a k m)
+  unfolding asked writes
+  asked-within f a k m =
+      pick-both DataWithin (either (eqb f 3) (eqb f 4)) (λ _. pick-both DataWithin (reads n k) (λ _. none-within) (λ _. none-within))
+      (λ _. pick-both DataWithin (eqb f 6)
+      (λ _. pick-both DataWithin (eqb n 5) (λ e. (omega arith, omega (arith, eqb-true n 5 e))) (λ _. none-within))
+      (λ _. pick-both DataWithin (eqb f 16)
+      (λ _. pick-both DataWithin (writes n k m)
       (λ e. (omega arith, omega (arith, eqb-true n (6 + 2 * k) (both-out (eqb m (2 * k)) (eqb n (6 + 2 * k)) (both-out (between 1 123 k) _ e .1) .1))))
-      (λ _. none-within)
+      (λ _. none-within))
+      (λ _. none-within)))
 
 request-within : (u : List ℕ) → DataWithin (length u) (requestOf u)
 unfolding requestOf
-request-within u =
-    let n : ℕ = length u in
-    let f : ℕ = getD u 0 0 in
-    pick-both (DataWithin n) (either (eqb f 3) (eqb f 4)) (λ _. reading-within n f (wordAt u 1) (wordAt u 3))
-    (λ _. pick-both (DataWithin n) (eqb f 6) (λ _. one-within n (wordAt u 1) (wordAt u 3))
-    (λ _. pick-both (DataWithin n) (eqb f 16) (λ _. many-within n (wordAt u 1) (wordAt u 3) (getD u 5 0)) (λ _. none-within n)))
+request-within u = asked-within (length u) (getD u 0 0) (wordAt u 1) (wordAt u 3) (getD u 5 0)
 
 pub unit-length : (f : List ℕ) → length (unitIn f) ≡ length f - 3
 unfolding unitIn

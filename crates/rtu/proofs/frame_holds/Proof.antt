@@ -1,9 +1,9 @@
--- `modbus::rtu::frame_holds` meets its contract: at each `return` the tests that led there pick that case of the definition. Assumes nothing.
+-- `rtu::frame_holds` meets its contract: at each `return` the tests that led there pick that case of the definition. Assumes nothing.
 use borrow.Author.Needs.{needs}
 use Rattle.base.proofs.Tests.{tests}
-use Rattle.modbus.specs.Rtu.{frameHolds}
-use Rattle.modbus.proofs.rtu.frame_holds.Statement.{statement}
-use Rattle.modbus.proofs.rtu.frame_holds.Tie as tie
+use Rattle.rtu.specs.Rtu.{frameHolds}
+use Rattle.rtu.proofs.frame_holds.Statement.{statement}
+use Rattle.rtu.proofs.frame_holds.Tie as tie
 
 returns : tie.Need-returns
 unfolding frameHolds

@@ -1,9 +1,9 @@
--- `modbus::rtu::put_rtu` meets its contract: `put_body` stored the address and the unit, so the CRC is that of these, and it goes behind them. A body
+-- `rtu::put_rtu` meets its contract: `put_body` stored the address and the unit, so the CRC is that of these, and it goes behind them. A body
 -- has 7 bytes at most, so there is room in 19. Assumes nothing.
 use borrow.Author.Needs.{needs}
-use Rattle.modbus.proofs.Replies.{none-count, none-lent, end-within, low-within, high-within, stores-kept, rtu-count, rtu-lent, end-fits}
-use Rattle.modbus.proofs.rtu.put_rtu.Statement.{statement}
-use Rattle.modbus.proofs.rtu.put_rtu.Tie as tie
+use Rattle.rtu.proofs.Replies.{none-count, none-lent, end-within, low-within, high-within, stores-kept, rtu-count, rtu-lent, end-fits}
+use Rattle.rtu.proofs.put_rtu.Statement.{statement}
+use Rattle.rtu.proofs.put_rtu.Tie as tie
 
 returns : tie.Need-returns
 returns c = search (none-count, none-lent)

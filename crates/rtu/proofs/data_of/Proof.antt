@@ -1,9 +1,9 @@
--- `modbus::rtu::data_of` meets its contract: each arm is what the definition says of its case. Assumes nothing.
+-- `rtu::data_of` meets its contract: each arm is what the definition says of its case. Assumes nothing.
 use mathlib.Core.Path.{sym, ap}
 use borrow.Author.Needs.{needs}
-use Rattle.modbus.specs.Rtu.{dataOf}
-use Rattle.modbus.proofs.rtu.data_of.Statement.{statement}
-use Rattle.modbus.proofs.rtu.data_of.Tie as tie
+use Rattle.rtu.specs.Rtu.{dataOf}
+use Rattle.rtu.proofs.data_of.Statement.{statement}
+use Rattle.rtu.proofs.data_of.Tie as tie
 
 pub data-of-spec : {M : Type 1} → statement M
 data-of-spec =

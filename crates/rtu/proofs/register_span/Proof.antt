@@ -1,9 +1,9 @@
--- `modbus::rtu::register_span` meets its contract by what its callees ensure of the frame, its unit and the request. Assumes nothing.
+-- `rtu::register_span` meets its contract by what its callees ensure of the frame, its unit and the request. Assumes nothing.
 use borrow.Author.Needs.{needs}
 use Rattle.base.proofs.Tests.{tests}
-use Rattle.modbus.proofs.Frames.{span-broken, span-held}
-use Rattle.modbus.proofs.rtu.register_span.Statement.{statement}
-use Rattle.modbus.proofs.rtu.register_span.Tie as tie
+use Rattle.rtu.proofs.Frames.{span-broken, span-held}
+use Rattle.rtu.proofs.register_span.Statement.{statement}
+use Rattle.rtu.proofs.register_span.Tie as tie
 
 frame-holds-requires : tie.Need-frame-holds-requires
 frame-holds-requires c κs = search needs

@@ -11,11 +11,11 @@ use mir.Val.{Fits}
 use Rattle.base.specs.Buffers.{front}
 use Rattle.base.proofs.Sets.{tailed, take-sets, sets-front}
 use Rattle.checks.specs.Crc.{crcOf, crcBytes}
 use Rattle.modbus.specs.Answer.{unitOf}
 use Rattle.modbus.specs.Reply.{replyIn}
-use Rattle.modbus.specs.Rtu.{rtuOf}
+use Rattle.rtu.specs.Rtu.{rtuOf}
 use Rattle.modbus.specs.declared.answers.Answer.{Answer}
 use Rattle.modbus.proofs.Units.{unit-short}
 
 -- ---- a buffer under 19 bytes gets nothing, any other gets the reply
 pub reply-none : (size : ℕ) (reply : List ℕ) → size < 19 → replyIn size reply ≡ []
