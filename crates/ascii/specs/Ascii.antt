@@ -1,0 +1,53 @@
+-- Modbus ASCII: what a well-formed message is, and what could still become one. Assumes nothing.
+use mathlib.Core.Bool.{Bool, true, false}
+use mathlib.Core.List.{List, [], _∷_, _++_}
+use Prim.Native.Nat.{ℕ, _/_}
+use lib.Dec.{leb, eqb}
+use lib.ListN.{length, drop, getD}
+use Rattle.base.specs.Choice.{both, either}
+use Rattle.stream.specs.Format.{Format}
+use Rattle.hex.specs.Hex.{allHex, digitOf, hexOf, bytesOf}
+use Rattle.checks.specs.Lrc.{addsToZero, lrcOf}
+
+-- "`:`, k byte pairs in capital hex, CR LF": the message of k bytes
+unfoldable pub textOf : List ℕ → List ℕ
+textOf bytes = 0x3A ∷ hexOf bytes ++ 0x0D ∷ 0x0A ∷ []
+
+-- the bytes that a message's pairs spell: CR LF is no pair of hex digits, so they end there
+unfoldable pub bytesIn : List ℕ → List ℕ
+bytesIn m = bytesOf (drop 1 m)
+
+-- "k from 3 to 255; all k bytes, LRC last, add to 0 modulo 256"
+unfoldable pub right : List ℕ → Bool
+right bytes = both (both (leb 3 (length bytes)) (leb (length bytes) 255)) (addsToZero bytes)
+
+-- the same bytes
+unfoldable pub same : List ℕ → List ℕ → Bool
+same [] [] = true
+same [] (y ∷ t) = false
+same (x ∷ s) [] = false
+same (x ∷ s) (y ∷ t) = both (eqb x y) (same s t)
+
+-- a message is the text of its bytes, and these are right
+unfoldable pub formed : List ℕ → Bool
+formed m = both (same m (textOf (bytesIn m))) (right (bytesIn m))
+
+-- the hex digits d may be followed by more, or by CR: up to 508 freely, since the LRC is still to come; the 509th has to be the LRC's high digit; with
+-- the 510th all bytes have to add to 0
+unfoldable pub goesOn : List ℕ → Bool
+goesOn d =
+    either (leb (length d) 508)
+    (either (both (eqb (length d) 509) (eqb (getD d 508 0) (digitOf (lrcOf (bytesOf d) / 16))))
+    (both (eqb (length d) 510) (addsToZero (bytesOf d))))
+
+-- `:` and such digits
+unfoldable pub begun : List ℕ → Bool
+begun [] = true
+begun (x ∷ d) = both (eqb x 0x3A) (both (allHex d) (goesOn d))
+
+-- the bytes "could still become one": by digits or CR, or, after CR, by LF
+unfoldable pub viable : List ℕ → Bool
+viable s = either (begun s) (formed (s ++ 0x0A ∷ []))
+
+abbrev pub ascii : Format
+ascii = record { start = 0x3A; formed = formed; viable = viable }
