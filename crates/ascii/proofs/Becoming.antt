@@ -23,7 +23,7 @@ use Rattle.ascii.specs.Ascii.{textOf, formed, goesOn, begun, viable, asc
 use Rattle.ascii.proofs.Message.{hex-bytes, Message, message-out, message-in}
 
 -- one character is no pair
-one-none : (c : ℕ) → bytesOf (c ∷ []) ≡ []
+pub one-none : (c : ℕ) → bytesOf (c ∷ []) ≡ []
 unfolding bytesOf
 one-none c = refl
 
@@ -118,7 +118,7 @@ could-viable (x ∷ t) c = ⊎-elim
 
 -- ---- what passes the test could become a message
 -- an even number of hex digits, and CR LF
-even-formed : (d : List ℕ) (k : ℕ) → allHex d ≡ true → length d ≡ 2 * k → 3 ≤ k → k ≤ 255 → addsToZero (bytesOf d) ≡ true
+pub even-formed : (d : List ℕ) (k : ℕ) → allHex d ≡ true → length d ≡ 2 * k → 3 ≤ k → k ≤ 255 → addsToZero (bytesOf d) ≡ true
     → formed (0x3A ∷ d ++ 0x0D ∷ 0x0A ∷ []) ≡ true
 unfolding textOf
 even-formed d k hex size low high zeroed =

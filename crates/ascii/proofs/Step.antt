@@ -1,0 +1,209 @@
+-- One byte more: of bytes that are a beginning, only the new byte, the length, and whether the last byte is CR are to be looked at. The sum is needed
+-- at CR, and at 509 and 510 digits. Assumes nothing.
+use mathlib.Core.Path.{_≡_, refl, sym, ap, _∙_}
+use mathlib.Core.Logic.{⊎-elim}
+use mathlib.Core.Bool.{Bool, true, false}
+use mathlib.Core.List.{List, [], _∷_, _++_, append-nil, append-cancel-right, head-eq-of-cons-eq, tail-eq-of-cons-eq}
+use Prim.Native.Nat.{ℕ, zero, suc, _+_, _-_, _*_, _/_, _≤_, _<_}
+use native.Mathlib.Omega.{arith}
+use borrow.Author.Tests.{eq-eqb, ne-eqb, eqb-true, leb-true, le-leb, lt-leb}
+use lib.Dec.{leb, eqb}
+use lib.ListN.{length, getD, length-append}
+use lib.Seq.{getD-at, append-snoc}
+use Rattle.base.specs.Choice.{both, either}
+use Rattle.base.proofs.Tests.{both-out, both-in, either-out, either-left, not-both, is-false, same-test}
+use Rattle.stream.proofs.Lists.{append-cons-ne-nil}
+use Rattle.hex.specs.Hex.{isHex, allHex, digitOf, hexOf, bytesOf}
+use Rattle.hex.proofs.RoundTrip.{hex-other, cr-not-hex, length-hex, all-append, bytes-of-hex, hex-whole, bytes-append}
+use Rattle.checks.specs.Lrc.{addsToZero, lrcOf}
+use Rattle.ascii.specs.Ascii.{textOf, right, formed, goesOn, begun, viable}
+use Rattle.ascii.proofs.Message.{message-out}
+use Rattle.ascii.proofs.Becoming.{one-none, even-formed}
+
+-- the last byte is CR
+abbrev pub endsInCr : List ℕ → Bool
+endsInCr p = eqb (getD p (length p - 1) 0) 0x0D
+
+-- ---- lists that end in a byte
+snoc-parts : (s t : List ℕ) (x y : ℕ) → s ++ x ∷ [] ≡ t ++ y ∷ [] → (s ≡ t) × (x ≡ y)
+snoc-parts [] [] x y e = (refl, head-eq-of-cons-eq e)
+snoc-parts [] (b ∷ t) x y e = absurd (append-cons-ne-nil t y [] (sym (tail-eq-of-cons-eq e)))
+snoc-parts (a ∷ s) [] x y e = absurd (append-cons-ne-nil s x [] (tail-eq-of-cons-eq e))
+snoc-parts (a ∷ s) (b ∷ t) x y e =
+    let r = snoc-parts s t x y (tail-eq-of-cons-eq e) in
+    ((λ i. head-eq-of-cons-eq e i ∷ (r .0) i), r .1)
+
+last-is : (s : List ℕ) (x : ℕ) → getD (s ++ x ∷ []) (length (s ++ x ∷ []) - 1) 0 ≡ x
+last-is s x = getD-at s x [] 0 (length (s ++ x ∷ []) - 1) (omega (arith, length-append s (x ∷ [])))
+
+hex-at : (d : List ℕ) (i : ℕ) → allHex d ≡ true → i < length d → isHex (getD d i 0) ≡ true
+unfolding allHex
+hex-at [] i e h = absurd (omega arith)
+hex-at (c ∷ d) zero e h = both-out (isHex c) (allHex d) e .0
+hex-at (c ∷ d) (suc i) e h = hex-at d i (both-out (isHex c) (allHex d) e .1) (omega arith)
+
+-- ---- which of the two a beginning is
+-- a message without its last byte ends in CR, and that byte is LF
+pub message-ends : (p : List ℕ) (b : ℕ) → formed (p ++ b ∷ []) ≡ true → (bytes : List ℕ) × (p ≡ 0x3A ∷ hexOf bytes ++ 0x0D ∷ []) × (b ≡ 0x0A)
+unfolding textOf
+message-ends p b e =
+    let m = message-out (p ++ b ∷ []) e in
+    let r = snoc-parts p (0x3A ∷ hexOf (m .bytes) ++ 0x0D ∷ []) b 0x0A (m .text ∙ ap (λ (q : List ℕ). 0x3A ∷ q) (sym (append-snoc (hexOf (m .bytes)) 0x0D (0x0A ∷ [])))) in
+    (m .bytes, r .0, r .1)
+
+ends-cr : (p bytes : List ℕ) → p ≡ 0x3A ∷ hexOf bytes ++ 0x0D ∷ [] → endsInCr p ≡ true
+ends-cr p bytes e = rw e (eq-eqb _ 0x0D (last-is (0x3A ∷ hexOf bytes) 0x0D))
+
+begun-ends : (p : List ℕ) → begun p ≡ true → endsInCr p ≡ false
+unfolding begun
+begun-ends [] e = refl
+begun-ends (x ∷ d) e =
+    let h = both-out (eqb x 0x3A) (both (allHex d) (goesOn d)) e in
+    ne-eqb _ 0x0D (other d (eqb-true x 0x3A (h .0)) (both-out (allHex d) (goesOn d) (h .1) .0))
+  where
+    other : (d : List ℕ) → x ≡ 0x3A → allHex d ≡ true → getD (x ∷ d) (length (x ∷ d) - 1) 0 ≡ 0x0D → ⊥
+    other [] c e q = omega (arith, c, q)
+    other (y ∷ d) c e q =
+        let n : length (x ∷ y ∷ d) - 1 ≡ suc (length d) = omega arith in
+        let k : getD (y ∷ d) (length d) 0 ≡ 0x0D = ap (λ (i : ℕ). getD (x ∷ y ∷ d) i 0) (sym n) ∙ q in
+        hex-other (getD (y ∷ d) (length d) 0) 0x0D (hex-at (y ∷ d) (length d) e (omega arith)) cr-not-hex k
+
+pub still-begun : (p : List ℕ) → viable p ≡ true → endsInCr p ≡ false → begun p ≡ true
+unfolding viable
+still-begun p e n = ⊎-elim (λ h. h)
+    (λ h. let r = message-ends p 0x0A h in absurd (not-both (ends-cr p (r .0) (r .1)) n))
+    (either-out (begun p) (formed (p ++ 0x0A ∷ [])) e)
+
+pub wants-lf : (p : List ℕ) → viable p ≡ true → endsInCr p ≡ true → formed (p ++ 0x0A ∷ []) ≡ true
+unfolding viable
+wants-lf p e n = ⊎-elim (λ h. absurd (not-both n (begun-ends p h))) (λ h. h) (either-out (begun p) (formed (p ++ 0x0A ∷ [])) e)
+
+-- CR is no digit
+cr-inside : (s t : List ℕ) → allHex (s ++ 0x0D ∷ t) ≡ true → ⊥
+unfolding allHex
+cr-inside s t e =
+    let h = both-out (allHex s) (both (isHex 0x0D) (allHex t)) (sym (all-append s (0x0D ∷ t)) ∙ e) in
+    not-both (both-out (isHex 0x0D) (allHex t) (h .1) .0) cr-not-hex
+
+begun-hex : (x : ℕ) (d : List ℕ) → begun (x ∷ d) ≡ true → allHex d ≡ true
+unfolding begun
+begun-hex x d e = both-out (allHex d) (goesOn d) (both-out (eqb x 0x3A) (both (allHex d) (goesOn d)) e .1) .0
+
+-- ---- after CR: only LF makes a message, and nothing else goes on
+module _ (p : List ℕ) (b : ℕ) (v : viable p ≡ true) (cr : endsInCr p ≡ true) where
+  pub ended-formed : formed (p ++ b ∷ []) ≡ eqb b 0x0A
+  ended-formed = same-test (formed (p ++ b ∷ [])) (eqb b 0x0A)
+      (λ h. eq-eqb b 0x0A (message-ends p b h .2))
+      (λ h. rw (eqb-true b 0x0A h) (wants-lf p v cr))
+
+  pub ended-viable : viable (p ++ b ∷ []) ≡ false
+  ended-viable = is-false (viable (p ++ b ∷ [])) (λ h. go (endsInCr (p ++ b ∷ [])) refl h)
+    where
+      a : (bytes : List ℕ) × (p ≡ 0x3A ∷ hexOf bytes ++ 0x0D ∷ []) × (_≡_ {A = ℕ} 0x0A 0x0A)
+      a = message-ends p 0x0A (wants-lf p v cr)
+
+      go : (t : Bool) → endsInCr (p ++ b ∷ []) ≡ t → viable (p ++ b ∷ []) ≡ true → ⊥
+      go true t h =
+          let c = message-ends (p ++ b ∷ []) 0x0A (wants-lf (p ++ b ∷ []) h t) in
+          let q = snoc-parts p (0x3A ∷ hexOf (c .0)) b 0x0D (c .1) in
+          omega (arith, ap length (a .1), ap length (q .0), length-append (hexOf (a .0)) (0x0D ∷ []), length-hex (a .0), length-hex (c .0))
+      go false t h =
+          let q : begun (0x3A ∷ (hexOf (a .0) ++ 0x0D ∷ []) ++ b ∷ []) ≡ true = rw (a .1) at (still-begun (p ++ b ∷ []) h t) in
+          cr-inside (hexOf (a .0)) (b ∷ []) (rw append-snoc at (begun-hex 0x3A ((hexOf (a .0) ++ 0x0D ∷ []) ++ b ∷ []) q))
+
+-- ---- before CR: no byte makes a message
+pub begun-formed : (p : List ℕ) (b : ℕ) → begun p ≡ true → formed (p ++ b ∷ []) ≡ false
+begun-formed p b e = is-false (formed (p ++ b ∷ [])) (λ h. let r = message-ends p b h in not-both (ends-cr p (r .0) (r .1)) (begun-ends p e))
+
+-- ---- the first byte
+pub first-viable : (b : ℕ) → viable (b ∷ []) ≡ eqb b 0x3A
+unfolding viable begun allHex goesOn
+first-viable b = rw (is-false (formed (b ∷ 0x0A ∷ [])) short) (alone (eqb b 0x3A))
+  where
+    short : formed (b ∷ 0x0A ∷ []) ≡ true → ⊥
+    short h =
+        let r = message-ends (b ∷ []) 0x0A h in
+        append-cons-ne-nil (hexOf (r .0)) 0x0D [] (sym (tail-eq-of-cons-eq (r .1)))
+
+    alone : (t : Bool) → either (both t true) false ≡ t
+    alone true = refl
+    alone false = refl
+
+-- ---- a byte behind `:` and the digits d
+either-none : (t : Bool) → either t false ≡ t
+either-none true = refl
+either-none false = refl
+
+module _ (x : ℕ) (d : List ℕ) (b : ℕ) (e : begun (x ∷ d) ≡ true) where
+  colon : x ≡ 0x3A
+  unfolding begun
+  colon = eqb-true x 0x3A (both-out (eqb x 0x3A) (both (allHex d) (goesOn d)) e .0)
+
+  -- with LF it would be a message only if b is CR
+  no-message : (b ≡ 0x0D → ⊥) → formed (x ∷ d ++ b ∷ [] ++ 0x0A ∷ []) ≡ false
+  no-message n = is-false (formed (x ∷ d ++ b ∷ [] ++ 0x0A ∷ []))
+      (λ h. let r = message-ends (x ∷ d ++ b ∷ []) 0x0A h in n (snoc-parts (x ∷ d) (0x3A ∷ hexOf (r .0)) b 0x0D (r .1) .1))
+
+  hexes : allHex (d ++ b ∷ []) ≡ isHex b
+  unfolding allHex
+  hexes = all-append d (b ∷ []) ∙ rw (begun-hex x d e) (both-one (isHex b))
+    where
+      both-one : (t : Bool) → both t true ≡ t
+      both-one true = refl
+      both-one false = refl
+
+  -- a hex digit: by how many digits there are
+  pub digit-viable : isHex b ≡ true → viable (x ∷ d ++ b ∷ []) ≡ goesOn (d ++ b ∷ [])
+  unfolding viable begun
+  digit-viable h = rw (no-message (λ q. hex-other b 0x0D h cr-not-hex q), eq-eqb x 0x3A colon, hexes ∙ h) (either-none (goesOn (d ++ b ∷ [])))
+
+  -- neither a digit nor CR
+  pub other-viable : isHex b ≡ false → (b ≡ 0x0D → ⊥) → viable (x ∷ d ++ b ∷ []) ≡ false
+  unfolding viable begun
+  other-viable h n = rw (no-message n, eq-eqb x 0x3A colon, hexes ∙ h)
+
+-- CR: the digits are pairs, and their bytes right
+pub cr-viable : (x : ℕ) (d : List ℕ) → begun (x ∷ d) ≡ true → viable (x ∷ d ++ 0x0D ∷ []) ≡ both (eqb (2 * length (bytesOf d)) (length d)) (right (bytesOf d))
+unfolding viable begun right textOf
+cr-viable x d e = rw (eq-eqb x 0x3A (colon x d 0x0D e), hexes x d 0x0D e ∙ cr-not-hex) (same-test (formed (x ∷ d ++ 0x0D ∷ [] ++ 0x0A ∷ [])) _ there back)
+  where
+    there : formed (x ∷ d ++ 0x0D ∷ [] ++ 0x0A ∷ []) ≡ true → both (eqb (2 * length (bytesOf d)) (length d)) (right (bytesOf d)) ≡ true
+    there h =
+        let m = message-out (x ∷ d ++ 0x0D ∷ [] ++ 0x0A ∷ []) h in
+        let is : d ≡ hexOf (m .bytes) = append-cancel-right d (hexOf (m .bytes)) (0x0D ∷ 0x0A ∷ []) (sym (append-snoc d 0x0D (0x0A ∷ [])) ∙ tail-eq-of-cons-eq (m .text)) in
+        let bytes : bytesOf d ≡ m .bytes = ap bytesOf is ∙ bytes-of-hex (m .bytes) (m .below) in
+        rw bytes (both-in (eq-eqb _ (length d) (omega (arith, ap length is, length-hex (m .bytes)))) (both-in (both-in (le-leb 3 _ (m .low)) (le-leb _ 255 (m .high))) (m .zeroed)))
+
+    back : both (eqb (2 * length (bytesOf d)) (length d)) (right (bytesOf d)) ≡ true → formed (x ∷ d ++ 0x0D ∷ [] ++ 0x0A ∷ []) ≡ true
+    back h =
+        let k : ℕ = length (bytesOf d) in
+        let r = both-out (eqb (2 * k) (length d)) (right (bytesOf d)) h in
+        let q = both-out (both (leb 3 k) (leb k 255)) (addsToZero (bytesOf d)) (r .1) in
+        let l = both-out (leb 3 k) (leb k 255) (q .0) in
+        rw (colon x d 0x0D e, append-snoc d 0x0D (0x0A ∷ []))
+        (even-formed d k (begun-hex x d e) (sym (eqb-true (2 * k) (length d) (r .0))) (leb-true 3 k (l .0)) (leb-true k 255 (l .1)) (q .1))
+
+-- ---- how many digits may go on
+-- up to 508 freely
+pub goes-free : (d : List ℕ) → length d ≤ 508 → goesOn d ≡ true
+unfolding goesOn
+goes-free d h = either-left (leb (length d) 508) _ (le-leb (length d) 508 h)
+
+-- the 509th is the high digit of the LRC of the bytes before it
+pub goes-509 : (d : List ℕ) (b : ℕ) → allHex d ≡ true → length d ≡ 508 → goesOn (d ++ b ∷ []) ≡ eqb b (digitOf (lrcOf (bytesOf d) / 16))
+unfolding goesOn
+goes-509 d b hex n =
+    let size : length (d ++ b ∷ []) ≡ 509 = omega (arith, length-append d (b ∷ [])) in
+    let bytes : bytesOf (d ++ b ∷ []) ≡ bytesOf d =
+    bytes-append d (b ∷ []) (hex-whole d 254 hex n) ∙ ap (λ (q : List ℕ). bytesOf d ++ q) (one-none b) ∙ append-nil (bytesOf d) in
+    rw (size, getD-at d b [] 0 508 n, bytes) (either-none (eqb b (digitOf (lrcOf (bytesOf d) / 16))))
+
+-- with the 510th all bytes add to 0
+pub goes-510 : (d : List ℕ) → length d ≡ 510 → goesOn d ≡ addsToZero (bytesOf d)
+unfolding goesOn
+goes-510 d n = rw n
+
+-- there is no 511th
+pub goes-over : (d : List ℕ) → 510 < length d → goesOn d ≡ false
+unfolding goesOn
+goes-over d h = simp (lt-leb (length d) 508 (omega arith), ne-eqb (length d) 509 (λ q. omega arith), ne-eqb (length d) 510 (λ q. omega arith))
