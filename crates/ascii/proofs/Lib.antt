@@ -2,3 +2,5 @@ pub mod Message
 pub mod Becoming
 pub mod Lawful
 pub mod Step
+pub mod Texts
+pub mod Replies

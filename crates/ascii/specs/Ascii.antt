@@ -1,9 +1,9 @@
 -- Modbus ASCII: what a well-formed message is, and what could still become one. Assumes nothing.
 use mathlib.Core.Bool.{Bool, true, false}
 use mathlib.Core.List.{List, [], _∷_, _++_}
-use Prim.Native.Nat.{ℕ, _/_}
+use Prim.Native.Nat.{ℕ, _-_, _/_}
 use lib.Dec.{leb, eqb}
-use lib.ListN.{length, drop, getD}
+use lib.ListN.{length, take, drop, getD}
 use Rattle.base.specs.Choice.{both, either}
 use Rattle.stream.specs.Format.{Format}
 use Rattle.hex.specs.Hex.{allHex, digitOf, hexOf, bytesOf}
@@ -51,3 +51,14 @@ viable s = either (begun s) (formed (s ++ 0x0A ∷ []))
 
 abbrev pub ascii : Format
 ascii = record { start = 0x3A; formed = formed; viable = viable }
+
+-- the message of an address and a data unit: these bytes, with their LRC last
+unfoldable pub asciiOf : ℕ → List ℕ → List ℕ
+asciiOf address unit = textOf ((address ∷ unit) ++ lrcOf (address ∷ unit) ∷ [])
+
+-- a message's address, and its data unit: what is behind the address, without the LRC
+unfoldable pub addressIn : List ℕ → ℕ
+addressIn m = getD (bytesIn m) 0 0
+
+unfoldable pub unitIn : List ℕ → List ℕ
+unitIn m = drop 1 (take (length (bytesIn m) - 1) (bytesIn m))

@@ -1,3 +1,4 @@
 pub mod Laws
 pub mod Copies
 pub mod Units
+pub mod Buffers

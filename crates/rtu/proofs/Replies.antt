@@ -3,11 +3,8 @@ use mathlib.Core.Path.{_≡_, ap, ap₂, _∙_}
 use mathlib.Core.List.{List, [], _∷_, _++_}
 use Prim.Native.Nat.{ℕ, _+_, _-_, _/_, _%_, _≤_, _<_}
 use native.Mathlib.Omega.{arith}
-use borrow.Author.Tests.{lt-ltb, le-ltb}
 use lib.ListN.{length, take, set, length-set, length-append}
 use lib.Seq.{sets, length-sets}
-use mir.Syntax.{w64}
-use mir.Val.{Fits}
 use Rattle.base.specs.Buffers.{front}
 use Rattle.base.proofs.Sets.{tailed, take-sets, sets-front}
 use Rattle.checks.specs.Crc.{crcOf, crcBytes}
@@ -16,22 +13,7 @@ use Rattle.modbus.specs.Reply.{replyIn}
 use Rattle.rtu.specs.Rtu.{rtuOf}
 use Rattle.modbus.specs.declared.answers.Answer.{Answer}
 use Rattle.modbus.proofs.Units.{unit-short}
-
--- ---- a buffer under 19 bytes gets nothing, any other gets the reply
-pub reply-none : (size : ℕ) (reply : List ℕ) → size < 19 → replyIn size reply ≡ []
-unfolding replyIn
-reply-none size reply h = rw (lt-ltb size 19 h)
-
-pub reply-all : (size : ℕ) (reply : List ℕ) → 19 ≤ size → replyIn size reply ≡ reply
-unfolding replyIn
-reply-all size reply h = rw (le-ltb size 19 h)
-
-pub none-count : (size : ℕ) (reply : List ℕ) → size < 19 → 0 ≡ length (replyIn size reply)
-none-count size reply h = rw (reply-none size reply h)
-
-pub none-lent : (reply before : List ℕ) → length before < 19 → before ≡ front (replyIn (length before) reply) before
-unfolding front
-none-lent reply before h = rw (reply-none (length before) reply h)
+use Rattle.modbus.proofs.Buffers.{reply-all}
 
 pub rtu-length : (a : ℕ) (u : List ℕ) → length (rtuOf a u) ≡ length u + 3
 unfolding rtuOf crcBytes
@@ -68,7 +50,3 @@ module _ (a : ℕ) (answer : Answer) (n : ℕ) (r l : List ℕ) (big : 19 ≤ le
       (tailed r body l n (x % 256) (x / 256) lent count
       ∙ ap (λ (y : ℕ). sets r 0 (body ++ (y % 256 ∷ y / 256 ∷ []))) is
       ∙ sets-front (rtuOf a (unitOf answer)) r (omega (arith, rtu-length a (unitOf answer), unit-short answer)))
-
--- a sum at the end of a body does not wrap
-pub end-fits : (a : ℕ) (answer : Answer) (n k : ℕ) → n ≡ length (a ∷ unitOf answer) → k ≤ 2 → Fits w64 (n + k)
-end-fits a answer n k e h = omega (arith, unit-short answer)

@@ -1,0 +1,68 @@
+-- What the code stores of a message: `:`, the pairs through the part of the text behind it, CR LF. Assumes nothing.
+use mathlib.Core.Path.{_≡_, ap, _∙_}
+use mathlib.Core.List.{List, [], _∷_}
+use Prim.Native.Nat.{ℕ, _+_, _-_, _*_, _/_, _≤_, _<_}
+use native.Mathlib.Omega.{arith}
+use borrow.Author.Tests.{le-leb, lt-leb}
+use borrow.Rule.Slice.PartMut.{midOf, putMid}
+use lib.ListN.{length, set, length-set}
+use lib.Seq.{sets, length-sets}
+use Rattle.base.specs.Buffers.{front}
+use Rattle.base.proofs.Sets.{headed, tailed, sets-front}
+use Rattle.hex.specs.Hex.{hexOf}
+use Rattle.hex.proofs.RoundTrip.{length-hex}
+use Rattle.ascii.specs.Ascii.{textOf}
+use Rattle.ascii.specs.Text.{fitting}
+use Rattle.ascii.proofs.Message.{text-length}
+
+-- ---- a text that is too short gets nothing
+pub fitting-none : (size : ℕ) (m : List ℕ) → size < length m → fitting size m ≡ []
+unfolding fitting
+fitting-none size m h = rw (lt-leb (length m) size h)
+
+pub fitting-all : (size : ℕ) (m : List ℕ) → length m ≤ size → fitting size m ≡ m
+unfolding fitting
+fitting-all size m h = rw (le-leb (length m) size h)
+
+module _ (b t : List ℕ) (short : (length t + 1) / 2 < length b + 2) where
+  nothing : fitting (length t) (textOf b) ≡ []
+  nothing = fitting-none (length t) (textOf b) (omega (arith, text-length b))
+
+  pub short-count : 0 ≡ length (fitting (length t) (textOf b))
+  short-count = rw nothing
+
+  pub short-lent : t ≡ front (fitting (length t) (textOf b)) t
+  unfolding front
+  short-lent = rw nothing
+
+-- ---- the text t is long enough, and its part behind `:` came back as l
+module _ (b t l : List ℕ) (room : length b + 2 ≤ (length t + 1) / 2)
+    (e : l ≡ sets (midOf 1 (length (set t 0 0x3A) - 1) (set t 0 0x3A)) 0 (hexOf b)) where
+  pairs : putMid 1 (length (set t 0 0x3A) - 1) (set t 0 0x3A) l ≡ sets t 0 (0x3A ∷ hexOf b)
+  pairs = headed t (hexOf b) l 0x3A (omega arith) e
+
+  kept : length (putMid 1 (length (set t 0 0x3A) - 1) (set t 0 0x3A) l) ≡ length t
+  kept = ap length pairs ∙ length-sets t 0 (0x3A ∷ hexOf b)
+
+  pub cr-within : 2 * length b + 1 < length (putMid 1 (length (set t 0 0x3A) - 1) (set t 0 0x3A) l)
+  cr-within = omega (arith, kept)
+
+  pub lf-within : 2 * length b + 1 + 1 < length (set (putMid 1 (length (set t 0 0x3A) - 1) (set t 0 0x3A) l) (2 * length b + 1) 0x0D)
+  lf-within = omega (arith, kept, length-set (putMid 1 (length (set t 0 0x3A) - 1) (set t 0 0x3A) l) (2 * length b + 1) 0x0D)
+
+  pub text-kept : length (set (set (putMid 1 (length (set t 0 0x3A) - 1) (set t 0 0x3A) l) (2 * length b + 1) 0x0D) (2 * length b + 1 + 1) 0x0A) ≡ length t
+  text-kept = length-set (set (putMid 1 (length (set t 0 0x3A) - 1) (set t 0 0x3A) l) (2 * length b + 1) 0x0D) (2 * length b + 1 + 1) 0x0A ∙ length-set (putMid 1 (length (set t 0 0x3A) - 1) (set t 0 0x3A) l) (2 * length b + 1) 0x0D ∙ kept
+
+  whole : fitting (length t) (textOf b) ≡ textOf b
+  whole = fitting-all (length t) (textOf b) (omega (arith, text-length b))
+
+  pub text-count : 2 * length b + 1 + 2 ≡ length (fitting (length t) (textOf b))
+  text-count = rw whole (omega (arith, text-length b))
+
+  pub text-lent : set (set (putMid 1 (length (set t 0 0x3A) - 1) (set t 0 0x3A) l) (2 * length b + 1) 0x0D) (2 * length b + 1 + 1) 0x0A
+      ≡ front (fitting (length t) (textOf b)) t
+  unfolding textOf
+  text-lent =
+      rw whole
+      (tailed t (0x3A ∷ hexOf b) (putMid 1 (length (set t 0 0x3A) - 1) (set t 0 0x3A) l) (2 * length b + 1) 0x0D 0x0A pairs (omega (arith, length-hex b))
+      ∙ sets-front (textOf b) t (omega (arith, text-length b)))
