@@ -1,3 +1,4 @@
+pub mod Cases
 pub mod Message
 pub mod Becoming
 pub mod Lawful

@@ -1,1 +1,2 @@
 pub mod Rtu
+pub mod Cases

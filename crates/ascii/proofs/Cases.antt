@@ -1,0 +1,32 @@
+-- Case 7's messages, and the streams, are read and written as the tables say, by computation. Assumes nothing.
+use mathlib.Core.Path.{_≡_, refl}
+use mathlib.Core.Bool.{true}
+use mathlib.Core.List.{List, [], _∷_, _++_, map}
+use Prim.Native.Nat.{ℕ}
+use Rattle.stream.specs.Reading.{Yield}
+use Rattle.stream.specs.Automaton.{feed, feedAll}
+use Rattle.hex.specs.Hex.{isHex, allHex, digitValue, digitOf, pairValue, hexOf, bytesOf}
+use Rattle.checks.specs.Lrc.{sumOf, addsToZero, lrcOf}
+use Rattle.modbus.specs.Words.{wordBytes, wordAt}
+use Rattle.modbus.specs.Request.{reads, asked, requestOf}
+use Rattle.modbus.specs.Answer.{unitOf}
+use Rattle.modbus.specs.declared.requests.Request.{Request}
+use Rattle.modbus.specs.declared.answers.Answer.{Answer}
+use Rattle.ascii.specs.Ascii.{textOf, bytesIn, right, same, formed, goesOn, begun, viable, ascii, asciiOf, addressIn, unitIn}
+use Rattle.ascii.specs.Cases.{requests, replies, streams}
+
+pub all-formed : map formed (map (λ (t : List ℕ × ℕ × Request). t .0) requests ++ map (λ (t : List ℕ × ℕ × Answer). t .0) replies) ≡ true ∷ true ∷ true ∷ true ∷ true ∷ []
+unfolding formed same textOf bytesIn right bytesOf pairValue digitValue hexOf digitOf addsToZero sumOf
+all-formed = refl
+
+pub requests-read : map (λ (t : List ℕ × ℕ × Request). (t .0, addressIn (t .0), requestOf (unitIn (t .0)))) requests ≡ requests
+unfolding addressIn unitIn bytesIn bytesOf pairValue digitValue requestOf asked reads wordAt
+requests-read = refl
+
+pub replies-written : map (λ (t : List ℕ × ℕ × Answer). asciiOf (t .1) (unitOf (t .2))) replies ≡ map (λ (t : List ℕ × ℕ × Answer). t .0) replies
+unfolding asciiOf textOf hexOf digitOf lrcOf sumOf unitOf wordBytes
+replies-written = refl
+
+pub streams-fed : map (λ (t : List ℕ × Yield). feedAll ascii 0 [] (t .0)) streams ≡ map (λ (t : List ℕ × Yield). t .1) streams
+unfolding feedAll feed formed viable begun goesOn same textOf bytesIn right isHex allHex bytesOf pairValue digitValue hexOf digitOf addsToZero sumOf lrcOf
+streams-fed = refl
