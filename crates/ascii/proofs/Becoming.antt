@@ -48,6 +48,10 @@ module _ (b : List ℕ) (below : Bytes b) (zeroed : addsToZero b ≡ true) (n : 
   unfolding last
   last-lrc = adds-only body last (below-element 256 b n below (omega arith)) (rw (← split) zeroed)
 
+  pub with-lrc : b ≡ take n b ++ lrcOf (take n b) ∷ []
+  unfolding body
+  with-lrc = split ∙ ap (λ (y : ℕ). body ++ y ∷ []) last-lrc
+
   -- all its digits but the last
   digits : (t : List ℕ) (l : ℕ) → hexOf b ≡ t ++ l ∷ [] → t ≡ hexOf body ++ digitOf (lrcOf body / 16) ∷ []
   unfolding hexOf

@@ -5,3 +5,4 @@ pub mod Lawful
 pub mod Step
 pub mod Texts
 pub mod Replies
+pub mod RoundTrip

@@ -1,14 +1,15 @@
 -- What the writer of data units stores: each answer's unit, from the bytes that the code put together. Assumes nothing.
 use mathlib.Core.Path.{_≡_, sym, ap, _∙_}
 use mathlib.Core.List.{List, [], _∷_}
-use Prim.Native.Nat.{ℕ, suc, _+_, _-_, _/_, _%_, _≤_}
+use Prim.Native.Nat.{ℕ, suc, _+_, _-_, _/_, _%_, _≤_, _<_}
 use native.Mathlib.Omega.{arith}
 use mir.Syntax.{w64}
 use mir.Val.{Fits}
-use lib.Bits.{bitOr}
+use lib.Bits.{bitOr, or-lt}
 use lib.ListN.{length, set}
 use lib.Seq.{sets, length-sets}
 use borrow.Rule.Slice.PartMut.{midOf, putMid}
+use Rattle.base.specs.Bytes.{AllBelow, Bytes}
 use Rattle.base.proofs.Sets.{sets-out, headed}
 use Rattle.modbus.specs.Words.{wordBytes, longBytes}
 use Rattle.modbus.specs.Answer.{unitOf}
@@ -50,6 +51,20 @@ unit-short (Word f w) = omega arith
 unit-short (Long f v) = omega arith
 unit-short (Echo f r w) = omega arith
 unit-short (Exception f e) = omega arith
+
+-- the unit of an answer whose numbers are in their widths is bytes
+abbrev pub InWidth : Answer → Type 0
+InWidth (Word f w) = (f < 256) × (w < 65536)
+InWidth (Long f v) = (f < 256) × (v < 4294967296)
+InWidth (Echo f r n) = (f < 256) × (r .0 < 65536) × (n < 65536)
+InWidth (Exception f e) = (f < 256) × (e < 256)
+
+pub unit-below : (answer : Answer) → InWidth answer → Bytes (unitOf answer)
+unfolding unitOf longBytes wordBytes AllBelow
+unit-below (Word f w) h = (h .0, (omega arith, (omega (arith, h .1), (omega arith, tt))))
+unit-below (Long f v) h = (h .0, (omega arith, (omega arith, (omega arith, (omega (arith, h .1), (omega arith, tt))))))
+unit-below (Echo f r n) h = (h .0, (omega (arith, h .1), (omega arith, (omega (arith, h .2), (omega arith, tt)))))
+unit-below (Exception f e) h = (or-lt 8 f 0x80 (h .0) (omega arith), (h .1, tt))
 
 -- ---- an address before it
 pub body-fits : (answer : Answer) (n : ℕ) → n ≡ length (unitOf answer) → Fits w64 (n + 1)
