@@ -28,8 +28,8 @@ reads size count = both (eqb size 5) (between 1 125 count)
 unfoldable pub writes : (size count bytes : ℕ) → Bool
 writes size count bytes = both (between 1 123 count) (both (eqb bytes (2 * count)) (eqb size (6 + 2 * count)))
 
--- by the unit's size and function, the register at place 1, the count or word at place 3, and the byte count at place 5.
 -- 06, 5 bytes:  06, register, word. "Any other length or count is refusal 8"
+-- place:  0 function, 1 register, 3 count or word, 5 byte count, 6 register bytes
 unfoldable pub asked : (size function register number bytes : ℕ) → Request
 asked size function register number bytes =
     pick (either (eqb function 3) (eqb function 4)) (pick (reads size number) (Read function (label register) number) (Malformed function))

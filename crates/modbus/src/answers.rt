@@ -10,27 +10,14 @@ ghost use Rattle.modbus.specs.Answer.{unitOf};
 
 // What a data unit answers.
 pub enum Answer {
-    // 03 or 04, of a row of one register
-    Word {
-        function: u8,
-        word: u16,
-    },
-    // 03 or 04, of a row of two registers
-    Long {
-        function: u8,
-        value: u32,
-    },
-    // 06 or 16: the request's function, register and word or count
-    Echo {
-        function: u8,
-        register: Register,
-        number: u16,
-    },
-    // a refusal, of any function
-    Exception {
-        function: u8,
-        code: u8,
-    },
+    // 03 or 04, of a row of one register: the function, the word
+    Word(u8, u16),
+    // 03 or 04, of a row of two registers: the function, the value
+    Long(u8, u32),
+    // 06 or 16: the request's function, its register, its word or count
+    Echo(u8, Register, u16),
+    // a refusal: the request's function, the exception's number
+    Exception(u8, u8),
 }
 
 // A store that leaves the slice alone where it lies past the end.
@@ -61,47 +48,36 @@ pub fn put_unit(answer: Answer, out: &mut [u8]) -> usize
     ensures lent { λ _. ⌜ now (out .exit) ≡ sets (now (out .entry)) 0 (unitOf answer) ⌝ }
 {
     match answer {
-        Answer::Word { function, word } => {
+        Answer::Word(function, word) => {
             let unit = [function, 2, high(word), low(word)];
             copy_in(&unit, out)
         }
-        Answer::Long { function, value } => {
-            let first = (value % 65536) as u16;
-            let second = (value / 65536) as u16;
-            let unit = [
-                function,
-                4,
-                high(first),
-                low(first),
-                high(second),
-                low(second),
-            ];
+        Answer::Long(function, value) => {
+            let lo = (value % 65536) as u16;
+            let hi = (value / 65536) as u16;
+            let unit = [function, 4, high(lo), low(lo), high(hi), low(hi)];
             copy_in(&unit, out)
         }
-        Answer::Echo {
-            function,
-            register,
-            number,
-        } => {
+        Answer::Echo(function, register, number) => {
             let at = register.0;
             let unit = [function, high(at), low(at), high(number), low(number)];
             copy_in(&unit, out)
         }
-        Answer::Exception { function, code } => {
+        Answer::Exception(function, code) => {
             let unit = [function | 0x80, code];
             copy_in(&unit, out)
         }
     }
 }
 
-// Puts the address and, behind it, the answer's data unit at the start of `out`, as far as they fit, and tells how many bytes these are.
-pub fn put_body(address: u8, answer: Answer, out: &mut [u8]) -> usize
+// Puts the address and, behind it, the answer's data unit at the start of `reply`, as far as they fit, and tells how many bytes these are.
+pub fn put_body(address: u8, answer: Answer, reply: &mut [u8]) -> usize
     ensures count { λ r. ⌜ r ≡ length (address ∷ unitOf answer) ⌝ }
-    ensures lent { λ _. ⌜ now (out .exit) ≡ sets (now (out .entry)) 0 (address ∷ unitOf answer) ⌝ }
+    ensures lent { λ _. ⌜ now (reply .exit) ≡ sets (now (reply .entry)) 0 (address ∷ unitOf answer) ⌝ }
 {
-    if out.len() == 0 {
-        return put_unit(answer, out) + 1;
+    if reply.len() == 0 {
+        return put_unit(answer, reply) + 1;
     }
-    out[0] = address;
-    put_unit(answer, &mut out[1..]) + 1
+    reply[0] = address;
+    put_unit(answer, &mut reply[1..]) + 1
 }

@@ -13,26 +13,15 @@ pub struct Span {
 
 // What a data unit asks.
 pub enum Request {
-    // 03 or 04
-    Read {
-        function: u8,
-        first: Register,
-        count: u16,
-    },
-    // 06
-    One {
-        register: Register,
-        word: u16,
-    },
-    // 16; the place of the register bytes in the unit
-    Many {
-        first: Register,
-        count: u16,
-        place: Span,
-    },
-    // One of the four functions, with a length or a count that it does not have.
+    // 03 or 04: the function, the first register, the count
+    Read(u8, Register, u16),
+    // 06: the register, the word
+    One(Register, u16),
+    // 16: the first register, the count, the place of the register bytes in the unit
+    Many(Register, u16, Span),
+    // one of these functions, with a length or a count that it does not have
     Malformed(u8),
-    // Any other function.
+    // any other function
     Unknown(u8),
 }
 
@@ -76,31 +65,20 @@ pub fn request_of(unit: &[u8]) -> Request
     match function {
         3 | 4 => {
             if reads(unit.len(), number) {
-                return Request::Read {
-                    function,
-                    first: register,
-                    count: number,
-                };
+                return Request::Read(function, register, number);
             }
             Request::Malformed(function)
         }
         6 => {
             if unit.len() == 5 {
-                return Request::One {
-                    register,
-                    word: number,
-                };
+                return Request::One(register, number);
             }
             Request::Malformed(6)
         }
         16 => {
             if writes(unit.len(), number, byte_at(unit, 5)) {
                 let to = 6 + 2 * (number as usize);
-                return Request::Many {
-                    first: register,
-                    count: number,
-                    place: Span { from: 6, to },
-                };
+                return Request::Many(register, number, Span { from: 6, to });
             }
             Request::Malformed(16)
         }

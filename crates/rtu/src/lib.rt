@@ -9,8 +9,8 @@ ghost use mathlib.Core.Path.{_≡_};
 ghost use lib.ListN.{length};
 ghost use Rattle.base.specs.Buffers.{front};
 ghost use Rattle.modbus.specs.Answer.{unitOf};
-ghost use Rattle.rtu.specs.Rtu.{frameHolds, addressIn, unitIn, rtuOf, dataOf, registerSpan, registerData};
 ghost use Rattle.modbus.specs.Reply.{replyIn};
+ghost use Rattle.rtu.specs.Rtu.{frameHolds, addressIn, unitIn, rtuOf, dataOf, registerSpan, registerData};
 
 // Whether a frame's length and CRC are right.
 pub fn frame_holds(frame: &[u8]) -> bool
@@ -51,23 +51,12 @@ fn data_of(request: Request) -> Span
     ensures { λ r. ⌜ r ≡ dataOf request ⌝ }
 {
     match request {
-        Request::One {
-            register: _,
-            word: _,
-        } => Span { from: 4, to: 6 },
-        Request::Many {
-            first: _,
-            count,
-            place: _,
-        } => Span {
+        Request::One(_, _) => Span { from: 4, to: 6 },
+        Request::Many(_, count, _) => Span {
             from: 7,
             to: 7 + 2 * (count as usize),
         },
-        Request::Read {
-            function: _,
-            first: _,
-            count: _,
-        } => Span { from: 0, to: 0 },
+        Request::Read(_, _, _) => Span { from: 0, to: 0 },
         Request::Malformed(_) => Span { from: 0, to: 0 },
         Request::Unknown(_) => Span { from: 0, to: 0 },
     }

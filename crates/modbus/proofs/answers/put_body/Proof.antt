@@ -19,8 +19,8 @@ same-length c = search needs
 returns : tie.Need-returns
 returns c = search (body-count, body-none)
 
-slice-write-out : tie.Need-slice-write-out
-slice-write-out c = search needs
+slice-write-reply : tie.Need-slice-write-reply
+slice-write-reply c = search needs
 
 sub-put-unit : tie.Need-sub-put-unit
 sub-put-unit c = simp length-set (omega arith)
@@ -51,7 +51,7 @@ put-body-spec =
     add-result
     same-length
     returns
-    slice-write-out
+    slice-write-reply
     sub-put-unit
     part-put-unit-start
     part-put-unit-end

@@ -22,11 +22,11 @@ copy-in-requires c κs = search needs
 enum-known-answer-2 : tie.Need-enum-known-answer-2
 enum-known-answer-2 c = search needs
 
-cast-first : tie.Need-cast-first
-cast-first c = search needs
+cast-lo : tie.Need-cast-lo
+cast-lo c = search needs
 
-cast-second : tie.Need-cast-second
-cast-second c = search needs
+cast-hi : tie.Need-cast-hi
+cast-hi c = search needs
 
 high-requires-2 : tie.Need-high-requires-2
 high-requires-2 c κs = search needs
@@ -126,8 +126,8 @@ put-unit-spec =
     slice-aggregate-copy-in
     copy-in-requires
     enum-known-answer-2
-    cast-first
-    cast-second
+    cast-lo
+    cast-hi
     high-requires-2
     low-requires-2
     high-requires-3
