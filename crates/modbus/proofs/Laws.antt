@@ -10,6 +10,7 @@ use lib.Dec.{eqb}
 use Rattle.base.specs.Choice.{pick, either}
 use Rattle.modbus.specs.Words.{wordAt, longAt}
 use Rattle.modbus.specs.Request.{label, span, reads, writes, asked, requestOf}
+use Rattle.modbus.specs.declared.requests.Request.{Request}
 use Rattle.modbus.specs.declared.requests.Request.the-variants.{Read, One, Many, Malformed, Unknown}
 
 -- ---- words past the end, and words of the bytes that were read
@@ -42,47 +43,46 @@ read-known f l h = go (eqb f 3) refl
     go true e = refl
     go false e = let n : f ≡ 3 → ⊥ = eqb-false f 3 e in eq-eqb f 4 (omega arith)
 
-module _ (u : List ℕ) (f a b : ℕ) (p : f ≡ getD u 0 0) (q : a ≡ wordAt u 1) (s : b ≡ wordAt u 3) where
+module _ (n f a b x : ℕ) where
   -- 03 and 04
-  read-case : 3 ≤ f → f < 5 → (t : Bool) → reads (length u) b ≡ t → pick t (Read f (label a) b) (Malformed f) ≡ requestOf u
-  unfolding requestOf asked
-  read-case l h t e = rw (← p, ← q, ← s, read-known f l h, e)
+  read-case : 3 ≤ f → f < 5 → (t : Bool) → reads n b ≡ t → pick t (Read f (label a) b) (Malformed f) ≡ asked n f a b x
+  unfolding asked
+  read-case l h t e = rw (read-known f l h, e)
 
-  pub request-read : 3 ≤ f → f < 5 → (t : Bool) → t ≡ reads (length u) b → t ≡ true → Read f (label a) b ≡ requestOf u
-  request-read l h t e k = read-case l h true (sym e ∙ k)
+  pub asked-read : 3 ≤ f → f < 5 → (t : Bool) → t ≡ reads n b → t ≡ true → Read f (label a) b ≡ asked n f a b x
+  asked-read l h t e k = read-case l h true (sym e ∙ k)
 
-  pub request-unread : 3 ≤ f → f < 5 → (t : Bool) → t ≡ reads (length u) b → t ≡ false → Malformed f ≡ requestOf u
-  request-unread l h t e k = read-case l h false (sym e ∙ k)
+  pub asked-unread : 3 ≤ f → f < 5 → (t : Bool) → t ≡ reads n b → t ≡ false → Malformed f ≡ asked n f a b x
+  asked-unread l h t e k = read-case l h false (sym e ∙ k)
 
   -- 06
-  one-case : f ≡ 6 → (t : Bool) → eqb (length u) 5 ≡ t → pick t (One (label a) b) (Malformed 6) ≡ requestOf u
-  unfolding requestOf asked
-  one-case k t e = rw (← p, ← q, ← s, k, e)
+  pub asked-one : f ≡ 6 → n ≡ 5 → One (label a) b ≡ asked n f a b x
+  unfolding asked
+  asked-one k h = rw (k, h)
 
-  pub request-one : f ≡ 6 → length u ≡ 5 → One (label a) b ≡ requestOf u
-  request-one k h = one-case k true (eq-eqb (length u) 5 h)
-
-  pub request-not-one : f ≡ 6 → (length u ≡ 5 → ⊥) → Malformed 6 ≡ requestOf u
-  request-not-one k h = one-case k false (ne-eqb (length u) 5 h)
+  pub asked-not-one : f ≡ 6 → (n ≡ 5 → ⊥) → Malformed 6 ≡ asked n f a b x
+  unfolding asked
+  asked-not-one k h = rw (k, ne-eqb n 5 h)
 
   -- 16
-  many-case : (x : ℕ) → x ≡ getD u 5 0 → f ≡ 16 → (t : Bool) → writes (length u) b x ≡ t → pick t (Many (label a) b (span 6 (6 + 2 * b))) (Malformed 16) ≡ requestOf u
-  unfolding requestOf asked
-  many-case x o k t e = rw (← p, ← q, ← s, k, ← o, e)
+  pub asked-many : f ≡ 16 → (t : Bool) → t ≡ writes n b x → t ≡ true → Many (label a) b (span 6 (6 + 2 * b)) ≡ asked n f a b x
+  unfolding asked
+  asked-many k t e h = rw (k, sym e ∙ h)
 
-  pub request-many : (x : ℕ) → x ≡ getD u 5 0 → f ≡ 16 → (t : Bool) → t ≡ writes (length u) b x → t ≡ true → Many (label a) b (span 6 (6 + 2 * b)) ≡ requestOf u
-  request-many x o k t e h = many-case x o k true (sym e ∙ h)
+  pub asked-not-many : f ≡ 16 → (t : Bool) → t ≡ writes n b x → t ≡ false → Malformed 16 ≡ asked n f a b x
+  unfolding asked
+  asked-not-many k t e h = rw (k, sym e ∙ h)
 
-  pub request-not-many : (x : ℕ) → x ≡ getD u 5 0 → f ≡ 16 → (t : Bool) → t ≡ writes (length u) b x → t ≡ false → Malformed 16 ≡ requestOf u
-  request-not-many x o k t e h = many-case x o k false (sym e ∙ h)
+  -- any other function
+  pub asked-below : f < 3 → Unknown f ≡ asked n f a b x
+  unfolding asked
+  asked-below l = simp (ne-eqb f 3 (λ e. omega arith), ne-eqb f 4 (λ e. omega arith), ne-eqb f 6 (λ e. omega arith), ne-eqb f 16 (λ e. omega arith))
 
--- any other function
-module _ (u : List ℕ) (f : ℕ) (p : f ≡ getD u 0 0) where
-  pub request-below : f < 3 → Unknown f ≡ requestOf u
-  unfolding requestOf asked
-  request-below l =
-      rw (← p) (simp (ne-eqb f 3 (λ e. omega arith), ne-eqb f 4 (λ e. omega arith), ne-eqb f 6 (λ e. omega arith), ne-eqb f 16 (λ e. omega arith)))
+  pub asked-above : 5 ≤ f → (f ≡ 6 → ⊥) → (f ≡ 16 → ⊥) → Unknown f ≡ asked n f a b x
+  unfolding asked
+  asked-above l m o = simp (ne-eqb f 3 (λ e. omega arith), ne-eqb f 4 (λ e. omega arith), ne-eqb f 6 m, ne-eqb f 16 o)
 
-  pub request-above : 5 ≤ f → (f ≡ 6 → ⊥) → (f ≡ 16 → ⊥) → Unknown f ≡ requestOf u
-  unfolding requestOf asked
-  request-above l m n = rw (← p) (simp (ne-eqb f 3 (λ e. omega arith), ne-eqb f 4 (λ e. omega arith), ne-eqb f 6 m, ne-eqb f 16 n))
+-- what was read of the unit is what the definition reads
+pub request-read : (u : List ℕ) (f a b x : ℕ) (r : Request) → f ≡ getD u 0 0 → a ≡ wordAt u 1 → b ≡ wordAt u 3 → x ≡ getD u 5 0 → r ≡ asked (length u) f a b x → r ≡ requestOf u
+unfolding requestOf
+request-read u f a b x r p q s o e = rw (← p, ← q, ← s, ← o) e

@@ -1,11 +1,11 @@
 -- What the writer of data units stores: each answer's unit, from the bytes that the code put together. Assumes nothing.
 use mathlib.Core.Path.{_≡_, sym, ap, _∙_}
-use mathlib.Core.List.{List, [], _∷_}
-use Prim.Native.Nat.{ℕ, suc, _+_, _-_, _/_, _%_, _≤_, _<_}
+use mathlib.Core.List.{List, _∷_}
+use Prim.Native.Nat.{ℕ, suc, _+_, _-_, _≤_, _<_}
 use native.Mathlib.Omega.{arith}
 use mir.Syntax.{w64}
 use mir.Val.{Fits}
-use lib.Bits.{bitOr, or-lt}
+use lib.Bits.{or-lt}
 use lib.ListN.{length, set}
 use lib.Seq.{sets, length-sets}
 use borrow.Rule.Slice.PartMut.{midOf, putMid}
@@ -13,36 +13,15 @@ use Rattle.base.specs.Bytes.{AllBelow, Bytes}
 use Rattle.base.proofs.Sets.{sets-out, headed}
 use Rattle.modbus.specs.Words.{wordBytes, longBytes}
 use Rattle.modbus.specs.Answer.{unitOf}
-use Rattle.table.specs.declared.labels.Register.{Register}
 use Rattle.modbus.specs.declared.answers.Answer.{Answer}
 use Rattle.modbus.specs.declared.answers.Answer.the-variants.{Word, Long, Echo, Exception}
 
--- a copy of some bytes tells the count n and makes `before` into `now`: where they are the answer's unit, so do count and stores
-abbrev pub Stored : Answer → ℕ → List ℕ → List ℕ → Type 0
-Stored answer n before now = (n ≡ length (unitOf answer)) × (now ≡ sets before 0 (unitOf answer))
+-- a copy of the unit of the case k tells its count and stores it
+pub unit-count : (answer k : Answer) (n : ℕ) → answer ≡ k → n ≡ length (unitOf k) → n ≡ length (unitOf answer)
+unit-count answer k n e p = rw e p
 
-module _ (answer : Answer) (n : ℕ) (before now : List ℕ) where
-  copied : (bytes : List ℕ) → bytes ≡ unitOf answer → n ≡ length bytes → now ≡ sets before 0 bytes → Stored answer n before now
-  copied bytes e p q = (p ∙ ap length e, q ∙ ap (sets before 0) e)
-
-  pub put-word : (f w h l : ℕ) → answer ≡ Word f w → h ≡ w / 256 → l ≡ w % 256
-      → n ≡ length (f ∷ 2 ∷ h ∷ l ∷ []) → now ≡ sets before 0 (f ∷ 2 ∷ h ∷ l ∷ []) → Stored answer n before now
-  unfolding unitOf wordBytes
-  put-word f w h l a i j p q = copied (f ∷ 2 ∷ h ∷ l ∷ []) (rw (a, i, j)) p q
-
-  pub put-long : (f v h l h₂ l₂ : ℕ) → answer ≡ Long f v → h ≡ v % 65536 / 256 → l ≡ v % 65536 % 256 → h₂ ≡ v / 65536 / 256 → l₂ ≡ v / 65536 % 256
-      → n ≡ length (f ∷ 4 ∷ h ∷ l ∷ h₂ ∷ l₂ ∷ []) → now ≡ sets before 0 (f ∷ 4 ∷ h ∷ l ∷ h₂ ∷ l₂ ∷ []) → Stored answer n before now
-  unfolding unitOf longBytes wordBytes
-  put-long f v h l h₂ l₂ a i j i₂ j₂ p q = copied (f ∷ 4 ∷ h ∷ l ∷ h₂ ∷ l₂ ∷ []) (rw (a, i, j, i₂, j₂)) p q
-
-  pub put-echo : (f : ℕ) (r : Register) (w h l h₂ l₂ : ℕ) → answer ≡ Echo f r w → h ≡ r .0 / 256 → l ≡ r .0 % 256 → h₂ ≡ w / 256 → l₂ ≡ w % 256
-      → n ≡ length (f ∷ h ∷ l ∷ h₂ ∷ l₂ ∷ []) → now ≡ sets before 0 (f ∷ h ∷ l ∷ h₂ ∷ l₂ ∷ []) → Stored answer n before now
-  unfolding unitOf wordBytes
-  put-echo f r w h l h₂ l₂ a i j i₂ j₂ p q = copied (f ∷ h ∷ l ∷ h₂ ∷ l₂ ∷ []) (rw (a, i, j, i₂, j₂)) p q
-
-  pub put-exception : (f e : ℕ) → answer ≡ Exception f e → n ≡ length (bitOr f 0x80 ∷ e ∷ []) → now ≡ sets before 0 (bitOr f 0x80 ∷ e ∷ []) → Stored answer n before now
-  unfolding unitOf
-  put-exception f e a p q = copied (bitOr f 0x80 ∷ e ∷ []) (rw a) p q
+pub unit-stores : (answer k : Answer) (before now : List ℕ) → answer ≡ k → now ≡ sets before 0 (unitOf k) → now ≡ sets before 0 (unitOf answer)
+unit-stores answer k before now e p = rw e p
 
 -- no unit has more than 6 bytes
 pub unit-short : (answer : Answer) → length (unitOf answer) ≤ 6

@@ -1,6 +1,4 @@
 // The data unit of a reply, and the one writer of it.
-use crate::words::high;
-use crate::words::low;
 use table::Register;
 ghost use mathlib.Core.Path.{_≡_};
 ghost use mathlib.Core.List.{_∷_};
@@ -49,18 +47,31 @@ pub fn put_unit(answer: Answer, out: &mut [u8]) -> usize
 {
     match answer {
         Answer::Word(function, word) => {
-            let unit = [function, 2, high(word), low(word)];
+            let unit = [function, 2, (word / 256) as u8, (word % 256) as u8];
             copy_in(&unit, out)
         }
         Answer::Long(function, value) => {
-            let lo = (value % 65536) as u16;
-            let hi = (value / 65536) as u16;
-            let unit = [function, 4, high(lo), low(lo), high(hi), low(hi)];
+            let low = value % 65536;
+            let high = value / 65536;
+            let unit = [
+                function,
+                4,
+                (low / 256) as u8,
+                (low % 256) as u8,
+                (high / 256) as u8,
+                (high % 256) as u8,
+            ];
             copy_in(&unit, out)
         }
         Answer::Echo(function, register, number) => {
             let at = register.0;
-            let unit = [function, high(at), low(at), high(number), low(number)];
+            let unit = [
+                function,
+                (at / 256) as u8,
+                (at % 256) as u8,
+                (number / 256) as u8,
+                (number % 256) as u8,
+            ];
             copy_in(&unit, out)
         }
         Answer::Exception(function, code) => {

@@ -3,7 +3,7 @@ use crate::words::byte_at;
 use crate::words::word_at;
 use table::Register;
 ghost use mathlib.Core.Path.{_≡_};
-ghost use Rattle.modbus.specs.Request.{reads, writes, requestOf};
+ghost use Rattle.modbus.specs.Request.{reads, writes, asked, requestOf};
 
 // A part of a slice: the place of its first byte, and the place after its last.
 pub struct Span {
@@ -55,33 +55,40 @@ fn writes(size: usize, count: u16, bytes: u8) -> bool
     size == 6 + twice
 }
 
-// What the data unit `unit` asks: its function, label and numbers, or that it is malformed or of no known function.
-pub fn request_of(unit: &[u8]) -> Request
-    ensures { λ r. ⌜ r ≡ requestOf (now (unit .entry)) ⌝ }
+// What a unit of `size` bytes asks, by its function, the register and the number behind it, and the byte count of a 16.
+fn asked(size: usize, function: u8, register: u16, number: u16, bytes: u8) -> Request
+    ensures { λ r. ⌜ r ≡ asked size function register number bytes ⌝ }
 {
-    let function = byte_at(unit, 0);
-    let register = Register(word_at(unit, 1));
-    let number = word_at(unit, 3);
     match function {
         3 | 4 => {
-            if reads(unit.len(), number) {
-                return Request::Read(function, register, number);
+            if reads(size, number) {
+                return Request::Read(function, Register(register), number);
             }
             Request::Malformed(function)
         }
         6 => {
-            if unit.len() == 5 {
-                return Request::One(register, number);
+            if size == 5 {
+                return Request::One(Register(register), number);
             }
             Request::Malformed(6)
         }
         16 => {
-            if writes(unit.len(), number, byte_at(unit, 5)) {
+            if writes(size, number, bytes) {
                 let to = 6 + 2 * (number as usize);
-                return Request::Many(register, number, Span { from: 6, to });
+                return Request::Many(Register(register), number, Span { from: 6, to });
             }
             Request::Malformed(16)
         }
         _ => Request::Unknown(function),
     }
+}
+
+// What the data unit `unit` asks: its function, label and numbers, or that it is malformed or of no known function.
+pub fn request_of(unit: &[u8]) -> Request
+    ensures { λ r. ⌜ r ≡ requestOf (now (unit .entry)) ⌝ }
+{
+    let function = byte_at(unit, 0);
+    let register = word_at(unit, 1);
+    let number = word_at(unit, 3);
+    asked(unit.len(), function, register, number, byte_at(unit, 5))
 }

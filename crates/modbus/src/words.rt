@@ -1,6 +1,5 @@
 // Words and 32-bit values, as bytes of a data unit.
 ghost use mathlib.Core.Path.{_≡_};
-ghost use Prim.Native.Nat.{_/_, _%_};
 ghost use lib.ListN.{getD};
 ghost use Rattle.modbus.specs.Words.{wordAt, longAt};
 
@@ -29,17 +28,4 @@ pub fn long_at(bytes: &[u8], at: usize) -> u32
         return 0;
     }
     (word_at(bytes, at) as u32) + 65536 * (word_at(bytes, at + 2) as u32)
-}
-
-// The two bytes of a word.
-pub fn high(word: u16) -> u8
-    ensures { λ r. ⌜ r ≡ word / 256 ⌝ }
-{
-    (word / 256) as u8
-}
-
-pub fn low(word: u16) -> u8
-    ensures { λ r. ⌜ r ≡ word % 256 ⌝ }
-{
-    (word % 256) as u8
 }
