@@ -1,6 +1,6 @@
 -- What the code stores of a message: `:`, the pairs through the part of the text behind it, CR LF. Assumes nothing.
 use mathlib.Core.Path.{_≡_, ap, _∙_}
-use mathlib.Core.List.{List, [], _∷_}
+use mathlib.Core.List.{List, [], _∷_, _++_}
 use Prim.Native.Nat.{ℕ, _+_, _-_, _*_, _/_, _≤_, _<_}
 use native.Mathlib.Omega.{arith}
 use borrow.Author.Tests.{le-leb, lt-leb}
@@ -35,23 +35,26 @@ module _ (b t : List ℕ) (short : (length t + 1) / 2 < length b + 2) where
   unfolding front
   short-lent = rw nothing
 
--- ---- the text t is long enough, and its part behind `:` came back as l
-module _ (b t l : List ℕ) (room : length b + 2 ≤ (length t + 1) / 2)
-    (e : l ≡ sets (midOf 1 (length (set t 0 0x3A) - 1) (set t 0 0x3A)) 0 (hexOf b)) where
-  pairs : putMid 1 (length (set t 0 0x3A) - 1) (set t 0 0x3A) l ≡ sets t 0 (0x3A ∷ hexOf b)
-  pairs = headed t (hexOf b) l 0x3A (omega arith) e
+-- ---- the text t is long enough: c was stored at its start, and its part behind that came back as l with the pairs
+module _ (b t l : List ℕ) (c : ℕ) (room : length b + 2 ≤ (length t + 1) / 2) (e : l ≡ sets (midOf 1 (length (set t 0 c) - 1) (set t 0 c)) 0 (hexOf b)) where
+  pairs : putMid 1 (length (set t 0 c) - 1) (set t 0 c) l ≡ sets t 0 (c ∷ hexOf b)
+  pairs = headed t (hexOf b) l c (omega arith) e
 
-  kept : length (putMid 1 (length (set t 0 0x3A) - 1) (set t 0 0x3A) l) ≡ length t
-  kept = ap length pairs ∙ length-sets t 0 (0x3A ∷ hexOf b)
+  kept : length (putMid 1 (length (set t 0 c) - 1) (set t 0 c) l) ≡ length t
+  kept = ap length pairs ∙ length-sets t 0 (c ∷ hexOf b)
 
-  pub cr-within : 2 * length b + 1 < length (putMid 1 (length (set t 0 0x3A) - 1) (set t 0 0x3A) l)
+  pub cr-within : 2 * length b + 1 < length (putMid 1 (length (set t 0 c) - 1) (set t 0 c) l)
   cr-within = omega (arith, kept)
 
-  pub lf-within : 2 * length b + 1 + 1 < length (set (putMid 1 (length (set t 0 0x3A) - 1) (set t 0 0x3A) l) (2 * length b + 1) 0x0D)
-  lf-within = omega (arith, kept, length-set (putMid 1 (length (set t 0 0x3A) - 1) (set t 0 0x3A) l) (2 * length b + 1) 0x0D)
+  -- x and y are stored behind the pairs
+  pub lf-within : (x : ℕ) → 2 * length b + 1 + 1 < length (set (putMid 1 (length (set t 0 c) - 1) (set t 0 c) l) (2 * length b + 1) x)
+  lf-within x = omega (arith, kept, length-set (putMid 1 (length (set t 0 c) - 1) (set t 0 c) l) (2 * length b + 1) x)
 
-  pub text-kept : length (set (set (putMid 1 (length (set t 0 0x3A) - 1) (set t 0 0x3A) l) (2 * length b + 1) 0x0D) (2 * length b + 1 + 1) 0x0A) ≡ length t
-  text-kept = length-set (set (putMid 1 (length (set t 0 0x3A) - 1) (set t 0 0x3A) l) (2 * length b + 1) 0x0D) (2 * length b + 1 + 1) 0x0A ∙ length-set (putMid 1 (length (set t 0 0x3A) - 1) (set t 0 0x3A) l) (2 * length b + 1) 0x0D ∙ kept
+  pub text-kept : (x y : ℕ) → length (set (set (putMid 1 (length (set t 0 c) - 1) (set t 0 c) l) (2 * length b + 1) x) (2 * length b + 1 + 1) y) ≡ length t
+  text-kept x y =
+      length-set (set (putMid 1 (length (set t 0 c) - 1) (set t 0 c) l) (2 * length b + 1) x) (2 * length b + 1 + 1) y
+      ∙ length-set (putMid 1 (length (set t 0 c) - 1) (set t 0 c) l) (2 * length b + 1) x
+      ∙ kept
 
   whole : fitting (length t) (textOf b) ≡ textOf b
   whole = fitting-all (length t) (textOf b) (omega (arith, text-length b))
@@ -59,10 +62,12 @@ module _ (b t l : List ℕ) (room : length b + 2 ≤ (length t + 1) / 2)
   pub text-count : 2 * length b + 1 + 2 ≡ length (fitting (length t) (textOf b))
   text-count = rw whole (omega (arith, text-length b))
 
-  pub text-lent : set (set (putMid 1 (length (set t 0 0x3A) - 1) (set t 0 0x3A) l) (2 * length b + 1) 0x0D) (2 * length b + 1 + 1) 0x0A
-      ≡ front (fitting (length t) (textOf b)) t
+  -- the three are `:`, CR and LF
+  pub text-lent : (x y : ℕ) → c ≡ 0x3A → x ≡ 0x0D → y ≡ 0x0A
+      → set (set (putMid 1 (length (set t 0 c) - 1) (set t 0 c) l) (2 * length b + 1) x) (2 * length b + 1 + 1) y ≡ front (fitting (length t) (textOf b)) t
   unfolding textOf
-  text-lent =
+  text-lent x y colon cr lf =
       rw whole
-      (tailed t (0x3A ∷ hexOf b) (putMid 1 (length (set t 0 0x3A) - 1) (set t 0 0x3A) l) (2 * length b + 1) 0x0D 0x0A pairs (omega (arith, length-hex b))
+      (tailed t (c ∷ hexOf b) (putMid 1 (length (set t 0 c) - 1) (set t 0 c) l) (2 * length b + 1) x y pairs (omega (arith, length-hex b))
+      ∙ (λ i. sets t 0 (colon i ∷ hexOf b ++ cr i ∷ lf i ∷ []))
       ∙ sets-front (textOf b) t (omega (arith, text-length b)))
