@@ -5,7 +5,7 @@ use mathlib.Core.Bool.{Bool, true, false}
 use mathlib.Core.List.{List, [], _∷_, _++_, append-assoc, append-nil, head-eq-of-cons-eq, tail-eq-of-cons-eq}
 use Prim.Native.Nat.{ℕ, zero, suc, _+_, _-_, _*_, _/_, _%_, _≤_}
 use native.Mathlib.Omega.{arith}
-use borrow.Author.Tests.{eq-eqb, eqb-true, leb-true, leb-false}
+use borrow.Author.Tests.{eq-eqb, eqb-true, leb-true, leb-false, le-leb}
 use lib.Dec.{leb, eqb}
 use lib.ListN.{length, length-append, take, getD, length-take, replicate, length-replicate}
 use lib.Seq.{take-suc, take-all, take-at, getD-at, append-snoc}
@@ -19,8 +19,37 @@ use Rattle.hex.specs.Hex.{isHex, allHex, digitOf, hexOf, bytesOf}
 use Rattle.hex.proofs.RoundTrip.{length-hex, hex-append, hex-all, all-append, bytes-of-hex, bytes-below, hex-whole, hex-of-even, bytes-append}
 use Rattle.checks.specs.Lrc.{addsToZero, lrcOf}
 use Rattle.checks.proofs.Laws.{lrc-below, adds-lrc, adds-only}
-use Rattle.ascii.specs.Ascii.{textOf, formed, goesOn, begun, viable, ascii}
+use Rattle.ascii.specs.Ascii.{textOf, formed, free, lrcBegun, full, goesOn, begun, viable, ascii}
 use Rattle.ascii.proofs.Message.{hex-bytes, Message, message-out, message-in}
+
+-- ---- what the tests of the digits tell
+pub free-out : (d : List ℕ) → free d ≡ true → length d ≤ 508
+unfolding free
+free-out d e = leb-true (length d) 508 e
+
+pub free-in : (d : List ℕ) → length d ≤ 508 → free d ≡ true
+unfolding free
+free-in d h = le-leb (length d) 508 h
+
+pub begun-out : (d : List ℕ) → lrcBegun d ≡ true → (length d ≡ 509) × (getD d 508 0 ≡ digitOf (lrcOf (bytesOf d) / 16))
+unfolding lrcBegun
+begun-out d e =
+    let r = both-out (eqb (length d) 509) (eqb (getD d 508 0) (digitOf (lrcOf (bytesOf d) / 16))) e in
+    (eqb-true (length d) 509 (r .0), eqb-true _ _ (r .1))
+
+pub begun-in : (d : List ℕ) → length d ≡ 509 → getD d 508 0 ≡ digitOf (lrcOf (bytesOf d) / 16) → lrcBegun d ≡ true
+unfolding lrcBegun
+begun-in d n h = both-in (eq-eqb (length d) 509 n) (eq-eqb (getD d 508 0) (digitOf (lrcOf (bytesOf d) / 16)) h)
+
+pub full-out : (d : List ℕ) → full d ≡ true → (length d ≡ 510) × (addsToZero (bytesOf d) ≡ true)
+unfolding full
+full-out d e =
+    let r = both-out (eqb (length d) 510) (addsToZero (bytesOf d)) e in
+    (eqb-true (length d) 510 (r .0), r .1)
+
+pub full-in : (d : List ℕ) → length d ≡ 510 → addsToZero (bytesOf d) ≡ true → full d ≡ true
+unfolding full
+full-in d n z = both-in (eq-eqb (length d) 510 n) z
 
 -- one character is no pair
 pub one-none : (c : ℕ) → bytesOf (c ∷ []) ≡ []
@@ -64,31 +93,30 @@ module _ (b : List ℕ) (below : Bytes b) (zeroed : addsToZero b ≡ true) (n : 
       sym (take-at t (l ∷ []) (length t) refl) ∙ ap (take (length t)) whole ∙ take-at (hexOf body ++ digitOf (x / 16) ∷ []) (digitOf (x % 16) ∷ []) (length t) long
 
 -- 509 digits: the last of them is the high digit of the LRC
-full-but-one : (a t : List ℕ) → Bytes a → length t ≡ 509 → t ≡ hexOf a ++ digitOf (lrcOf a / 16) ∷ []
-    → both (eqb (length t) 509) (eqb (getD t 508 0) (digitOf (lrcOf (bytesOf t) / 16))) ≡ true
+full-but-one : (a t : List ℕ) → Bytes a → length t ≡ 509 → t ≡ hexOf a ++ digitOf (lrcOf a / 16) ∷ [] → lrcBegun t ≡ true
 full-but-one a t below size is =
     let n : length (hexOf a) ≡ 508 = omega (arith, ap length is, length-append (hexOf a) (digitOf (lrcOf a / 16) ∷ [])) in
     let all : bytesOf t ≡ a = ap bytesOf is ∙ hex-bytes a (digitOf (lrcOf a / 16) ∷ []) below (one-none (digitOf (lrcOf a / 16))) in
     let low : getD t 508 0 ≡ digitOf (lrcOf a / 16) = ap (λ (q : List ℕ). getD q 508 0) is ∙ getD-at (hexOf a) (digitOf (lrcOf a / 16)) [] 0 508 n in
-    both-in (eq-eqb (length t) 509 size) (rw all (eq-eqb (getD t 508 0) (digitOf (lrcOf a / 16)) low))
+    begun-in t size (rw all low)
 
 -- the digits t of a message, followed by e, may go on
 goes-on : (b t e : List ℕ) → Bytes b → length b ≤ 255 → addsToZero b ≡ true → hexOf b ≡ t ++ e → goesOn t ≡ true
 unfolding goesOn
 goes-on b t e below high zeroed h = go (leb (length t) 508) refl e h
   where
-    go : (u : Bool) → leb (length t) 508 ≡ u → (e : List ℕ) → hexOf b ≡ t ++ e
-        → either u (either (both (eqb (length t) 509) (eqb (getD t 508 0) (digitOf (lrcOf (bytesOf t) / 16)))) (both (eqb (length t) 510) (addsToZero (bytesOf t)))) ≡ true
-    go true u e h = refl
+    go : (u : Bool) → leb (length t) 508 ≡ u → (e : List ℕ) → hexOf b ≡ t ++ e → either (free t) (either (lrcBegun t) (full t)) ≡ true
+    go true u e h = either-left (free t) (either (lrcBegun t) (full t)) (free-in t (leb-true (length t) 508 u))
     go false u [] h =
         let is : t ≡ hexOf b = sym (append-nil t) ∙ sym h in
         let all : bytesOf t ≡ b = ap bytesOf is ∙ bytes-of-hex b below in
         let size : length t ≡ 510 = omega (arith, leb-false (length t) 508 u, ap length is, length-hex b) in
-        either-right (both (eqb (length t) 509) (eqb (getD t 508 0) (digitOf (lrcOf (bytesOf t) / 16)))) _ (both-in (eq-eqb (length t) 510 size) (rw all zeroed))
+        either-right (free t) (either (lrcBegun t) (full t)) (either-right (lrcBegun t) (full t) (full-in t size (rw all zeroed)))
     go false u (l ∷ []) h =
         let size : length t ≡ 509 = omega (arith, leb-false (length t) 508 u, ap length h, length-hex b, length-append t (l ∷ [])) in
         let k : length b ≡ suc 254 = omega (arith, ap length h, length-hex b, length-append t (l ∷ [])) in
-        either-left _ _ (full-but-one (body b below zeroed 254 k) t (body-below b below zeroed 254 k) size (digits b below zeroed 254 k t l h))
+        either-right (free t) (either (lrcBegun t) (full t))
+        (either-left (lrcBegun t) (full t) (full-but-one (body b below zeroed 254 k) t (body-below b below zeroed 254 k) size (digits b below zeroed 254 k t l h)))
     go false u (l ∷ m ∷ e) h = absurd (omega (arith, leb-false (length t) 508 u, ap length h, length-hex b, length-append t (l ∷ m ∷ e)))
 
 pub could-viable : (s : List ℕ) → CouldBecome ascii s → viable s ≡ true
@@ -191,17 +219,14 @@ begun-could (x ∷ d) e =
     let k = both-out (allHex d) (goesOn d) (h .1) in
     let colon : x ≡ 0x3A = eqb-true x 0x3A (h .0) in
     rw colon (⊎-elim
-    (λ a. free-could d (k .0) (leb-true (length d) 508 a))
+    (λ a. free-could d (k .0) (free-out d a))
     (λ a. ⊎-elim
     (λ c.
-    let r = both-out (eqb (length d) 509) (eqb (getD d 508 0) (digitOf (lrcOf (bytesOf d) / 16))) c in
-    let size : length d ≡ 509 = eqb-true (length d) 509 (r .0) in
-    last-could d (take 508 d) (getD d 508 0) (sym (take-all 509 d (omega arith)) ∙ take-suc d 508 0 (omega arith)) (k .0) (omega (arith, length-take 508 d)) (eqb-true _ _ (r .1)))
-    (λ c.
-    let r = both-out (eqb (length d) 510) (addsToZero (bytesOf d)) c in
-    (0x0D, 0x0A ∷ [], even-formed d 255 (k .0) (eqb-true (length d) 510 (r .0)) (omega arith) (omega arith) (r .1)))
-    (either-out (both (eqb (length d) 509) (eqb (getD d 508 0) (digitOf (lrcOf (bytesOf d) / 16)))) (both (eqb (length d) 510) (addsToZero (bytesOf d))) a))
-    (either-out (leb (length d) 508) _ (k .1)))
+    let r = begun-out d c in
+    last-could d (take 508 d) (getD d 508 0) (sym (take-all 509 d (omega (arith, r .0))) ∙ take-suc d 508 0 (omega (arith, r .0))) (k .0) (omega (arith, length-take 508 d, r .0)) (r .1))
+    (λ c. let r = full-out d c in (0x0D, 0x0A ∷ [], even-formed d 255 (k .0) (r .0) (omega arith) (omega arith) (r .1)))
+    (either-out (lrcBegun d) (full d) a))
+    (either-out (free d) (either (lrcBegun d) (full d)) (k .1)))
 
 pub viable-could : (s : List ℕ) → viable s ≡ true → CouldBecome ascii s
 unfolding viable

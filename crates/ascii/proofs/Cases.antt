@@ -12,11 +12,11 @@ use Rattle.modbus.specs.Request.{reads, asked, requestOf}
 use Rattle.modbus.specs.Answer.{unitOf}
 use Rattle.modbus.specs.declared.requests.Request.{Request}
 use Rattle.modbus.specs.declared.answers.Answer.{Answer}
-use Rattle.ascii.specs.Ascii.{textOf, bytesIn, right, same, formed, goesOn, begun, viable, ascii, asciiOf, addressIn, unitIn}
+use Rattle.ascii.specs.Ascii.{textOf, bytesIn, counted, right, same, formed, free, lrcBegun, full, goesOn, begun, viable, ascii, asciiOf, addressIn, unitIn}
 use Rattle.ascii.specs.Cases.{requests, replies, streams}
 
 pub all-formed : map formed (map (λ (t : List ℕ × ℕ × Request). t .0) requests ++ map (λ (t : List ℕ × ℕ × Answer). t .0) replies) ≡ true ∷ true ∷ true ∷ true ∷ true ∷ []
-unfolding formed same textOf bytesIn right bytesOf pairValue digitValue hexOf digitOf addsToZero sumOf
+unfolding formed same textOf bytesIn counted right bytesOf pairValue digitValue hexOf digitOf addsToZero sumOf
 all-formed = refl
 
 pub requests-read : map (λ (t : List ℕ × ℕ × Request). (t .0, addressIn (t .0), requestOf (unitIn (t .0)))) requests ≡ requests
@@ -28,5 +28,5 @@ unfolding asciiOf textOf hexOf digitOf lrcOf sumOf unitOf wordBytes
 replies-written = refl
 
 pub streams-fed : map (λ (t : List ℕ × Yield). feedAll ascii 0 [] (t .0)) streams ≡ map (λ (t : List ℕ × Yield). t .1) streams
-unfolding feedAll feed formed viable begun goesOn same textOf bytesIn right isHex allHex bytesOf pairValue digitValue hexOf digitOf addsToZero sumOf lrcOf
+unfolding feedAll feed formed viable begun goesOn free lrcBegun full same textOf bytesIn counted right isHex allHex bytesOf pairValue digitValue hexOf digitOf addsToZero sumOf lrcOf
 streams-fed = refl

@@ -7,14 +7,13 @@ use native.Mathlib.Omega.{arith}
 use borrow.Author.Tests.{eq-eqb, eqb-true, leb-true, le-leb}
 use lib.Dec.{leb, eqb}
 use lib.ListN.{length, length-append}
-use Rattle.base.specs.Choice.{both}
 use Rattle.base.specs.Bytes.{AllBelow, Bytes}
 use Rattle.base.proofs.Tests.{both-out, both-in}
 use Rattle.base.proofs.Lists.{below-append}
 use Rattle.hex.specs.Hex.{isHex, allHex, digitValue, pairValue, hexOf, bytesOf}
 use Rattle.hex.proofs.RoundTrip.{hex-range, length-hex, hex-all, bytes-of-hex, bytes-below, hex-whole, bytes-append}
 use Rattle.checks.specs.Lrc.{addsToZero}
-use Rattle.ascii.specs.Ascii.{textOf, bytesIn, right, same, formed}
+use Rattle.ascii.specs.Ascii.{textOf, bytesIn, counted, right, same, formed}
 
 -- ---- the same bytes
 same-out : (s t : List ℕ) → same s t ≡ true → s ≡ t
@@ -59,24 +58,27 @@ pub record Message (m : List ℕ) : Type 0 where
   pub high : length bytes ≤ 255
   pub zeroed : addsToZero bytes ≡ true
 
+pub counted-out : (b : List ℕ) → counted b ≡ true → (3 ≤ length b) × (length b ≤ 255)
+unfolding counted
+counted-out b e =
+    let h = both-out (leb 3 (length b)) (leb (length b) 255) e in
+    (leb-true 3 (length b) (h .0), leb-true (length b) 255 (h .1))
+
+pub counted-in : (b : List ℕ) → 3 ≤ length b → length b ≤ 255 → counted b ≡ true
+unfolding counted
+counted-in b l h = both-in (le-leb 3 (length b) l) (le-leb (length b) 255 h)
+
 pub message-out : (m : List ℕ) → formed m ≡ true → Message m
 unfolding formed right bytesIn
 message-out m e =
     let h = both-out (same m (textOf (bytesIn m))) (right (bytesIn m)) e in
-    let k = both-out (both (leb 3 (length (bytesIn m))) (leb (length (bytesIn m)) 255)) (addsToZero (bytesIn m)) (h .1) in
-    let l = both-out (leb 3 (length (bytesIn m))) (leb (length (bytesIn m)) 255) (k .0) in
-    record {
-      bytes = bytesIn m;
-      text = same-out m (textOf (bytesIn m)) (h .0);
-      below = bytes-below _;
-      low = leb-true 3 (length (bytesIn m)) (l .0);
-      high = leb-true (length (bytesIn m)) 255 (l .1);
-      zeroed = k .1;
-    }
+    let k = both-out (counted (bytesIn m)) (addsToZero (bytesIn m)) (h .1) in
+    let l = counted-out (bytesIn m) (k .0) in
+    record { bytes = bytesIn m; text = same-out m (textOf (bytesIn m)) (h .0); below = bytes-below _; low = l .0; high = l .1; zeroed = k .1 }
 
 pub message-in : (b : List ℕ) → Bytes b → 3 ≤ length b → length b ≤ 255 → addsToZero b ≡ true → formed (textOf b) ≡ true
 unfolding formed right
-message-in b h l g z = rw (text-bytes b h) (both-in (same-in (textOf b)) (both-in (both-in (le-leb 3 (length b) l) (le-leb (length b) 255 g)) z))
+message-in b h l g z = rw (text-bytes b h) (both-in (same-in (textOf b)) (both-in (counted-in b l g) z))
 
 -- ---- hex digits are bytes
 pub hex-bytes-below : (t : List ℕ) → allHex t ≡ true → Bytes t

@@ -6,8 +6,8 @@ use mathlib.Core.Bool.{Bool, true, false}
 use mathlib.Core.List.{List, [], _∷_, _++_, append-nil, append-cancel-right, head-eq-of-cons-eq, tail-eq-of-cons-eq}
 use Prim.Native.Nat.{ℕ, zero, suc, _+_, _-_, _*_, _/_, _≤_, _<_}
 use native.Mathlib.Omega.{arith}
-use borrow.Author.Tests.{eq-eqb, ne-eqb, eqb-true, leb-true, le-leb, lt-leb}
-use lib.Dec.{leb, eqb}
+use borrow.Author.Tests.{eq-eqb, ne-eqb, eqb-true, lt-leb}
+use lib.Dec.{eqb}
 use lib.ListN.{length, getD, length-append}
 use lib.Seq.{getD-at, append-snoc}
 use Rattle.base.specs.Choice.{both, either}
@@ -16,9 +16,9 @@ use Rattle.stream.proofs.Lists.{append-cons-ne-nil}
 use Rattle.hex.specs.Hex.{isHex, allHex, digitOf, hexOf, bytesOf}
 use Rattle.hex.proofs.RoundTrip.{hex-other, cr-not-hex, length-hex, all-append, bytes-of-hex, hex-whole, bytes-append}
 use Rattle.checks.specs.Lrc.{addsToZero, lrcOf}
-use Rattle.ascii.specs.Ascii.{textOf, right, formed, goesOn, begun, viable}
-use Rattle.ascii.proofs.Message.{message-out}
-use Rattle.ascii.proofs.Becoming.{one-none, even-formed}
+use Rattle.ascii.specs.Ascii.{textOf, counted, right, formed, free, lrcBegun, full, goesOn, begun, viable}
+use Rattle.ascii.proofs.Message.{counted-out, counted-in, message-out}
+use Rattle.ascii.proofs.Becoming.{free-in, one-none, even-formed}
 
 -- the last byte is CR
 abbrev pub endsInCr : List ℕ → Bool
@@ -117,7 +117,7 @@ begun-formed p b e = is-false (formed (p ++ b ∷ [])) (λ h. let r = message-en
 
 -- ---- the first byte
 pub first-viable : (b : ℕ) → viable (b ∷ []) ≡ eqb b 0x3A
-unfolding viable begun allHex goesOn
+unfolding viable begun allHex goesOn free
 first-viable b = rw (is-false (formed (b ∷ 0x0A ∷ [])) short) (alone (eqb b 0x3A))
   where
     short : formed (b ∷ 0x0A ∷ []) ≡ true → ⊥
@@ -172,26 +172,26 @@ cr-viable x d e = rw (eq-eqb x 0x3A (colon x d 0x0D e), hexes x d 0x0D e ∙ cr-
         let m = message-out (x ∷ d ++ 0x0D ∷ [] ++ 0x0A ∷ []) h in
         let is : d ≡ hexOf (m .bytes) = append-cancel-right d (hexOf (m .bytes)) (0x0D ∷ 0x0A ∷ []) (sym (append-snoc d 0x0D (0x0A ∷ [])) ∙ tail-eq-of-cons-eq (m .text)) in
         let bytes : bytesOf d ≡ m .bytes = ap bytesOf is ∙ bytes-of-hex (m .bytes) (m .below) in
-        rw bytes (both-in (eq-eqb _ (length d) (omega (arith, ap length is, length-hex (m .bytes)))) (both-in (both-in (le-leb 3 _ (m .low)) (le-leb _ 255 (m .high))) (m .zeroed)))
+        rw bytes (both-in (eq-eqb _ (length d) (omega (arith, ap length is, length-hex (m .bytes)))) (both-in (counted-in (m .bytes) (m .low) (m .high)) (m .zeroed)))
 
     back : both (eqb (2 * length (bytesOf d)) (length d)) (right (bytesOf d)) ≡ true → formed (x ∷ d ++ 0x0D ∷ [] ++ 0x0A ∷ []) ≡ true
     back h =
         let k : ℕ = length (bytesOf d) in
         let r = both-out (eqb (2 * k) (length d)) (right (bytesOf d)) h in
-        let q = both-out (both (leb 3 k) (leb k 255)) (addsToZero (bytesOf d)) (r .1) in
-        let l = both-out (leb 3 k) (leb k 255) (q .0) in
+        let q = both-out (counted (bytesOf d)) (addsToZero (bytesOf d)) (r .1) in
+        let l = counted-out (bytesOf d) (q .0) in
         rw (colon x d 0x0D e, append-snoc d 0x0D (0x0A ∷ []))
-        (even-formed d k (begun-hex x d e) (sym (eqb-true (2 * k) (length d) (r .0))) (leb-true 3 k (l .0)) (leb-true k 255 (l .1)) (q .1))
+        (even-formed d k (begun-hex x d e) (sym (eqb-true (2 * k) (length d) (r .0))) (l .0) (l .1) (q .1))
 
 -- ---- how many digits may go on
 -- up to 508 freely
 pub goes-free : (d : List ℕ) → length d ≤ 508 → goesOn d ≡ true
 unfolding goesOn
-goes-free d h = either-left (leb (length d) 508) _ (le-leb (length d) 508 h)
+goes-free d h = either-left (free d) (either (lrcBegun d) (full d)) (free-in d h)
 
 -- the 509th is the high digit of the LRC of the bytes before it
 pub goes-509 : (d : List ℕ) (b : ℕ) → allHex d ≡ true → length d ≡ 508 → goesOn (d ++ b ∷ []) ≡ eqb b (digitOf (lrcOf (bytesOf d) / 16))
-unfolding goesOn
+unfolding goesOn free lrcBegun full
 goes-509 d b hex n =
     let size : length (d ++ b ∷ []) ≡ 509 = omega (arith, length-append d (b ∷ [])) in
     let bytes : bytesOf (d ++ b ∷ []) ≡ bytesOf d =
@@ -200,10 +200,10 @@ goes-509 d b hex n =
 
 -- with the 510th all bytes add to 0
 pub goes-510 : (d : List ℕ) → length d ≡ 510 → goesOn d ≡ addsToZero (bytesOf d)
-unfolding goesOn
+unfolding goesOn free lrcBegun full
 goes-510 d n = rw n
 
 -- there is no 511th
 pub goes-over : (d : List ℕ) → 510 < length d → goesOn d ≡ false
-unfolding goesOn
+unfolding goesOn free lrcBegun full
 goes-over d h = simp (lt-leb (length d) 508 (omega arith), ne-eqb (length d) 509 (λ q. omega arith), ne-eqb (length d) 510 (λ q. omega arith))

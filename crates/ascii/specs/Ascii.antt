@@ -18,8 +18,11 @@ unfoldable pub bytesIn : List ℕ → List ℕ
 bytesIn m = bytesOf (drop 1 m)
 
 -- "k from 3 to 255; all k bytes, LRC last, add to 0 modulo 256"
+unfoldable pub counted : List ℕ → Bool
+counted bytes = both (leb 3 (length bytes)) (leb (length bytes) 255)
+
 unfoldable pub right : List ℕ → Bool
-right bytes = both (both (leb 3 (length bytes)) (leb (length bytes) 255)) (addsToZero bytes)
+right bytes = both (counted bytes) (addsToZero bytes)
 
 -- the same bytes
 unfoldable pub same : List ℕ → List ℕ → Bool
@@ -32,13 +35,20 @@ same (x ∷ s) (y ∷ t) = both (eqb x y) (same s t)
 unfoldable pub formed : List ℕ → Bool
 formed m = both (same m (textOf (bytesIn m))) (right (bytesIn m))
 
--- the hex digits d may be followed by more, or by CR: up to 508 freely, since the LRC is still to come; the 509th has to be the LRC's high digit; with
--- the 510th all bytes have to add to 0
+-- the hex digits d may be followed by more, or by CR: up to 508 freely, since the LRC is still to come
+unfoldable pub free : List ℕ → Bool
+free d = leb (length d) 508
+
+-- the 509th is the LRC's high digit
+unfoldable pub lrcBegun : List ℕ → Bool
+lrcBegun d = both (eqb (length d) 509) (eqb (getD d 508 0) (digitOf (lrcOf (bytesOf d) / 16)))
+
+-- with the 510th all bytes add to 0
+unfoldable pub full : List ℕ → Bool
+full d = both (eqb (length d) 510) (addsToZero (bytesOf d))
+
 unfoldable pub goesOn : List ℕ → Bool
-goesOn d =
-    either (leb (length d) 508)
-    (either (both (eqb (length d) 509) (eqb (getD d 508 0) (digitOf (lrcOf (bytesOf d) / 16))))
-    (both (eqb (length d) 510) (addsToZero (bytesOf d))))
+goesOn d = either (free d) (either (lrcBegun d) (full d))
 
 -- `:` and such digits
 unfoldable pub begun : List ℕ → Bool
