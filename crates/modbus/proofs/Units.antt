@@ -6,11 +6,11 @@ use native.Mathlib.Omega.{arith}
 use mir.Syntax.{w64}
 use mir.Val.{Fits}
 use lib.Bits.{or-lt}
-use lib.ListN.{length, set}
+use lib.ListN.{length, set, length-set}
 use lib.Seq.{sets, length-sets}
 use borrow.Rule.Slice.PartMut.{midOf, putMid}
 use Rattle.base.specs.Bytes.{AllBelow, Bytes}
-use Rattle.base.proofs.Sets.{sets-out, headed}
+use Rattle.base.proofs.Sets.{sets-out, sets-rest, headed}
 use Rattle.modbus.specs.Words.{wordBytes, longBytes}
 use Rattle.modbus.specs.Answer.{unitOf}
 use Rattle.modbus.specs.declared.answers.Answer.{Answer}
@@ -53,13 +53,20 @@ pub body-count : (n : ℕ) (unit : List ℕ) → n ≡ length unit → n + 1 ≡
 body-count n unit e = omega arith
 
 -- through the part of the slice `before` from its second byte on, which was lent and came back as l
-module _ (address : ℕ) (unit before l : List ℕ) (some : length before ≡ 0 → ⊥)
-    (e : l ≡ sets (midOf 1 (length (set before 0 address) - 1) (set before 0 address)) 0 unit) where
-  pub body-stores : putMid 1 (length (set before 0 address) - 1) (set before 0 address) l ≡ sets before 0 (address ∷ unit)
-  body-stores = headed before unit l address (omega arith) e
+pub body-stores : (address : ℕ) (unit before l : List ℕ) → (length before ≡ 0 → ⊥)
+    → l ≡ sets (midOf 1 (length (set before 0 address) - 1) (set before 0 address)) 0 unit
+    → putMid 1 (length (set before 0 address) - 1) (set before 0 address) l ≡ sets before 0 (address ∷ unit)
+body-stores address unit before l some e = headed before unit l address (omega arith) e
 
-  pub body-kept : length (putMid 1 (length (set before 0 address) - 1) (set before 0 address) l) ≡ length before
-  body-kept = ap length body-stores ∙ length-sets before 0 (address ∷ unit)
+-- a part from j on that comes back as stores made it leaves the slice as long as it was
+pub body-kept : (address j : ℕ) (unit before l : List ℕ) → j ≤ 1 → (length before ≡ 0 → ⊥)
+    → l ≡ sets (midOf j (length (set before 0 address) - j) (set before 0 address)) 0 unit
+    → length (putMid j (length (set before 0 address) - j) (set before 0 address) l) ≡ length before
+body-kept address j unit before l h some e =
+    ap (λ (y : List ℕ). length (putMid j (length (set before 0 address) - j) (set before 0 address) y)) e
+    ∙ ap length (sets-rest j (set before 0 address) unit (omega (arith, length-set before 0 address)))
+    ∙ length-sets (set before 0 address) j unit
+    ∙ length-set before 0 address
 
 -- nothing is stored in a slice of no bytes
 pub body-none : (address : ℕ) (unit before now : List ℕ) → length before ≡ 0 → now ≡ sets before 0 unit → now ≡ sets before 0 (address ∷ unit)

@@ -38,7 +38,7 @@ add-result-2 : tie.Need-add-result-2
 add-result-2 c = search body-fits
 
 same-length-2 : tie.Need-same-length-2
-same-length-2 c = search body-kept
+same-length-2 c = search (body-kept, needs)
 
 returns-2 : tie.Need-returns-2
 returns-2 c = search (body-count, body-stores)
