@@ -8,7 +8,7 @@ use Prim.Native.Nat.{ℕ, zero, suc, _+_, _-_, _*_, _/_, _≤_, _<_}
 use native.Mathlib.Omega.{arith}
 use borrow.Author.Tests.{eq-eqb, ne-eqb, eqb-true, lt-leb}
 use lib.Dec.{eqb}
-use lib.ListN.{length, getD, length-append}
+use lib.ListN.{length, drop, getD, length-append, length-drop}
 use lib.Seq.{getD-at, append-snoc}
 use Rattle.base.specs.Choice.{both, either}
 use Rattle.base.proofs.Tests.{both-out, both-in, either-out, either-left, not-both, is-false, same-test}
@@ -17,8 +17,8 @@ use Rattle.hex.specs.Hex.{isHex, allHex, digitOf, hexOf, bytesOf}
 use Rattle.hex.proofs.RoundTrip.{hex-other, cr-not-hex, length-hex, all-append, bytes-of-hex, hex-whole, bytes-append}
 use Rattle.checks.specs.Lrc.{addsToZero, lrcOf}
 use Rattle.ascii.specs.Ascii.{textOf, counted, right, formed, free, lrcBegun, full, goesOn, begun, viable}
-use Rattle.ascii.proofs.Message.{counted-out, counted-in, message-out}
-use Rattle.ascii.proofs.Becoming.{free-in, one-none, even-formed}
+use Rattle.ascii.proofs.Message.{text-length, counted-out, counted-in, message-out}
+use Rattle.ascii.proofs.Becoming.{free-out, free-in, begun-out, full-out, one-none, even-formed}
 
 -- the last byte is CR
 abbrev pub endsInCr : List ℕ → Bool
@@ -77,6 +77,26 @@ still-begun p e n = ⊎-elim (λ h. h)
 pub wants-lf : (p : List ℕ) → viable p ≡ true → endsInCr p ≡ true → formed (p ++ 0x0A ∷ []) ≡ true
 unfolding viable
 wants-lf p e n = ⊎-elim (λ h. absurd (not-both n (begun-ends p h))) (λ h. h) (either-out (begun p) (formed (p ++ 0x0A ∷ [])) e)
+
+-- ---- no more than 512 bytes are ever pending: `:`, 510 digits, CR
+goes-length : (d : List ℕ) → goesOn d ≡ true → length d ≤ 510
+unfolding goesOn
+goes-length d e = ⊎-elim
+    (λ h. omega (arith, free-out d h))
+    (λ h. ⊎-elim (λ k. omega (arith, begun-out d k .0)) (λ k. omega (arith, full-out d k .0)) (either-out (lrcBegun d) (full d) h))
+    (either-out (free d) (either (lrcBegun d) (full d)) e)
+
+begun-length : (p : List ℕ) → begun p ≡ true → length p ≤ 511
+unfolding begun
+begun-length [] e = omega arith
+begun-length (x ∷ d) e = omega (arith, goes-length d (both-out (allHex d) (goesOn d) (both-out (eqb x 0x3A) (both (allHex d) (goesOn d)) e .1) .1))
+
+pub viable-length : (p : List ℕ) → viable p ≡ true → length p ≤ 512
+unfolding viable
+viable-length p e = ⊎-elim
+    (λ h. omega (arith, begun-length p h))
+    (λ h. let m = message-out (p ++ 0x0A ∷ []) h in omega (arith, m .high, ap length (m .text), text-length (m .bytes), length-append p (0x0A ∷ [])))
+    (either-out (begun p) (formed (p ++ 0x0A ∷ [])) e)
 
 -- CR is no digit
 cr-inside : (s t : List ℕ) → allHex (s ++ 0x0D ∷ t) ≡ true → ⊥
@@ -207,3 +227,40 @@ goes-510 d n = rw n
 pub goes-over : (d : List ℕ) → 510 < length d → goesOn d ≡ false
 unfolding goesOn free lrcBegun full
 goes-over d h = simp (lt-leb (length d) 508 (omega arith), ne-eqb (length d) 509 (λ q. omega arith), ne-eqb (length d) 510 (λ q. omega arith))
+
+-- ---- the same, of the bytes pending: p is a beginning, not empty and not yet ended by CR, and b comes
+module _ (p : List ℕ) (b : ℕ) (v : viable p ≡ true) (some : 1 ≤ length p) (opened : endsInCr p ≡ false) where
+  begins : (x : ℕ) × (d : List ℕ) × (p ≡ x ∷ d) × (begun (x ∷ d) ≡ true)
+  begins = go p some (still-begun p v opened)
+    where
+      go : (q : List ℕ) → 1 ≤ length q → begun q ≡ true → (x : ℕ) × (d : List ℕ) × (q ≡ x ∷ d) × (begun (x ∷ d) ≡ true)
+      go [] h e = absurd (omega arith)
+      go (x ∷ d) h e = (x, d, refl, e)
+
+  pub open-formed : formed (p ++ b ∷ []) ≡ false
+  open-formed = begun-formed p b (still-begun p v opened)
+
+  -- a hex digit: with it there are as many digits as p has bytes
+  step-digit : isHex b ≡ true → viable (p ++ b ∷ []) ≡ goesOn (drop 1 p ++ b ∷ [])
+  step-digit h = let r = begins in rw (r .2) (digit-viable (r .0) (r .1) b (r .3) h)
+
+  pub step-free : isHex b ≡ true → length p ≤ 508 → viable (p ++ b ∷ []) ≡ true
+  step-free h n = step-digit h ∙ goes-free (drop 1 p ++ b ∷ []) (omega (arith, length-append (drop 1 p) (b ∷ []), length-drop 1 p))
+
+  pub step-509 : isHex b ≡ true → length p ≡ 509 → viable (p ++ b ∷ []) ≡ eqb b (digitOf (lrcOf (bytesOf (drop 1 p)) / 16))
+  step-509 h n =
+      let r = begins in
+      step-digit h ∙ goes-509 (drop 1 p) b (rw (r .2) (begun-hex (r .0) (r .1) (r .3))) (omega (arith, length-drop 1 p))
+
+  pub step-510 : isHex b ≡ true → length p ≡ 510 → viable (p ++ b ∷ []) ≡ addsToZero (bytesOf (drop 1 p ++ b ∷ []))
+  step-510 h n = step-digit h ∙ goes-510 (drop 1 p ++ b ∷ []) (omega (arith, length-append (drop 1 p) (b ∷ []), length-drop 1 p))
+
+  pub step-over : isHex b ≡ true → 510 < length p → viable (p ++ b ∷ []) ≡ false
+  step-over h n = step-digit h ∙ goes-over (drop 1 p ++ b ∷ []) (omega (arith, length-append (drop 1 p) (b ∷ []), length-drop 1 p))
+
+  -- CR, and anything else
+  pub step-cr : b ≡ 0x0D → viable (p ++ b ∷ []) ≡ both (eqb (2 * length (bytesOf (drop 1 p))) (length (drop 1 p))) (right (bytesOf (drop 1 p)))
+  step-cr h = let r = begins in rw (h, r .2) (cr-viable (r .0) (r .1) (r .3))
+
+  pub step-other : isHex b ≡ false → (b ≡ 0x0D → ⊥) → viable (p ++ b ∷ []) ≡ false
+  step-other h n = let r = begins in rw (r .2) (other-viable (r .0) (r .1) b (r .3) h n)
