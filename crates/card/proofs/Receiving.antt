@@ -20,7 +20,7 @@ use Rattle.nfo.specs.Parts.{messageOf}
 use Rattle.nfo.specs.Scan.{feeding}
 use Rattle.nfo.specs.Replies.{ackOf, nakOf}
 use Rattle.nfo.proofs.Written.{reply-length}
-use Rattle.nfo_service.specs.declared.Served.{Served}
+use Rattle.service.specs.declared.Served.{Served}
 use Rattle.nfo_service.specs.Serve as Serve
 use Rattle.nfo_service.specs.Reply.{adrIn, parameterIn, numberOf, repliedBy, replied}
 use Rattle.drive.specs.declared.answer.Answer.{Answer}

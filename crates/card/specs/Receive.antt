@@ -11,7 +11,7 @@ use Rattle.pending.specs.Scanning.{scanFrom}
 use Rattle.nfo.specs.declared.message.Message.{Message}
 use Rattle.nfo.specs.Parts.{messageOf}
 use Rattle.nfo.specs.Scan.{feeding}
-use Rattle.nfo_service.specs.declared.Served.{Served}
+use Rattle.service.specs.declared.Served.{Served}
 use Rattle.nfo_service.specs.Serve as Serve
 use Rattle.nfo_service.specs.Reply.{replied}
 use Rattle.drive.specs.declared.answer.Answer.{Answer}

@@ -17,7 +17,8 @@ use Rattle.nfo.specs.Message.{enquiry, select, bccIn}
 use Rattle.nfo.specs.Scan.{fitsAt, stepIn, stepOf, again, ends, fed}
 use Rattle.nfo.specs.Parts.{valueAt, parameterAt, messageOf}
 use Rattle.nfo.specs.Replies.{digitsOf, bodyOf, replyOf, ackOf, nakOf}
-use Rattle.nfo_service.specs.Serve.{toUs, reachesUs, rowNamed, enquiryServed, stops, wroteServed, rowSelected, selectServed, served}
+use Rattle.service.specs.Serving.{toldServed, wroteServed}
+use Rattle.nfo_service.specs.Serve.{toUs, reachesUs, rowNamed, enquiryServed, stops, rowSelected, selectServed, served}
 use Rattle.nfo_service.specs.Reply.{repliedBy, replied}
 use Rattle.card.specs.declared.state.Protocol.the-variants.{Nfo}
 use Rattle.card.specs.State.{started}
@@ -25,5 +26,5 @@ use Rattle.card.specs.Receive.{taken, waiting, received}
 use Rattle.demands.specs.Cases.{said, Case, cases}
 
 pub cases-hold : map (λ (k : Case). said 3 (started Nfo) (k .bytes)) cases ≡ map (λ (k : Case). k .right) cases
-unfolding cases rows lineAt startWords firstRow rowOfE twos numberOf within member belowLimt aboveMagn atMode setpointAllows allows allowedAt isHex digitValue digitOf pairValue hexOf bccOf Drive.started active flagStands runs statusOf only14 stopped wordAt told readOnly boundsOf allowed held permitted permitOf stored applied written empty emptied pushed restarted scanFrom bccIn fitsAt stepIn stepOf again ends fed valueAt parameterAt messageOf digitsOf bodyOf replyOf ackOf nakOf toUs reachesUs rowNamed enquiryServed stops wroteServed rowSelected selectServed served repliedBy replied started taken waiting received enquiry select
+unfolding cases rows lineAt startWords firstRow rowOfE twos numberOf within member belowLimt aboveMagn atMode setpointAllows allows allowedAt isHex digitValue digitOf pairValue hexOf bccOf Drive.started active flagStands runs statusOf only14 stopped wordAt told readOnly boundsOf allowed held permitted permitOf stored applied written empty emptied pushed restarted scanFrom bccIn fitsAt stepIn stepOf again ends fed valueAt parameterAt messageOf digitsOf bodyOf replyOf ackOf nakOf toUs reachesUs rowNamed toldServed wroteServed enquiryServed stops rowSelected selectServed served repliedBy replied started taken waiting received enquiry select
 cases-hold = refl

@@ -1,5 +1,5 @@
 -- Serving a message, case by case: what the tests and the callees told, and the case of the definition. Assumes nothing.
-use mathlib.Core.Path.{_≡_, refl, sym, ap, _∙_}
+use mathlib.Core.Path.{_≡_, refl, sym, _∙_}
 use mathlib.Core.Bool.{Bool, true, false, not}
 use mathlib.Core.List.{List, []}
 use Prim.Native.Nat.{ℕ, zero-le}
@@ -14,20 +14,14 @@ use Rattle.nfo.specs.declared.message.Parameter.{Parameter}
 use Rattle.nfo.specs.declared.message.Value.{Value}
 use Rattle.nfo.specs.declared.message.Value.the-variants.{Word, NotHex}
 use Rattle.drive.specs.declared.plant.Plant.{Plant}
-use Rattle.drive.specs.declared.read.Told.{Told}
 use Rattle.drive.specs.declared.answer.Answer.the-variants as Answers
-use Rattle.drive.specs.declared.write.Refusal.{Refusal}
 use Rattle.drive.specs.declared.write.Refusal.the-variants as Refusals
-use Rattle.drive.specs.declared.write.Permit.the-variants.{Write, Refused}
-use Rattle.drive.specs.declared.write.Change.{Change}
-use Rattle.drive.specs.declared.write.Wrote.{Wrote}
 use Rattle.drive.specs.Faults.{stopped}
-use Rattle.drive.specs.Read.{told}
 use Rattle.drive.specs.Refusals.{readOnly}
-use Rattle.drive.specs.Write.{written}
-use Rattle.nfo_service.specs.Serve.{toUs, reachesUs, rowNamed, keeping, telling, stops, wroteServed, rowSelected, selectServed, enquiryServed}
+use Rattle.service.specs.Serving.{keeping, toldServed, wroteServed}
+use Rattle.service.specs.declared.Served.{Served}
+use Rattle.nfo_service.specs.Serve.{toUs, reachesUs, rowNamed, stops, rowSelected, selectServed, enquiryServed}
 use Rattle.nfo_service.specs.Reply.{adrIn, parameterIn, numberOf, repliedBy, replied}
-use Rattle.nfo_service.specs.declared.Served.{Served}
 use Rattle.nfo.specs.declared.message.Message.{Message}
 use Rattle.drive.specs.declared.answer.Answer.{Answer}
 
@@ -41,6 +35,10 @@ module _ (p : Plant) (s adr : ℕ) (q : Parameter) (t : Bool) (r : Served) where
   unfolding enquiryServed
   enquiry-none g d h f n e = simp (sym d ∙ not-false t h, sym f ∙ n) e
 
+  pub enquiry-told : (g : Found) (row : Row) → t ≡ toUs p adr → not t ≡ false → g ≡ rowNamed q → g ≡ At row → r ≡ toldServed p s row → r ≡ enquiryServed p s adr q
+  unfolding enquiryServed
+  enquiry-told g row d h f n e = simp (sym d ∙ not-false t h, sym f ∙ n) e
+
   -- ---- a SELECT
   pub select-other : (v : Value) → t ≡ reachesUs p adr → not t ≡ true → r ≡ keeping p s Answers.NotOurs → r ≡ selectServed p s adr q v
   unfolding selectServed
@@ -53,11 +51,6 @@ module _ (p : Plant) (s adr : ℕ) (q : Parameter) (t : Bool) (r : Served) where
   pub select-found : (v : Value) (g : Found) (row : Row) → t ≡ reachesUs p adr → not t ≡ false → g ≡ rowNamed q → g ≡ At row → r ≡ rowSelected p s adr row v → r ≡ selectServed p s adr q v
   unfolding selectServed
   select-found v g row d h f n e = simp (sym d ∙ not-false t h, sym f ∙ n) e
-
-pub enquiry-told : (p : Plant) (s adr : ℕ) (q : Parameter) (t : Bool) (x : Told) (g : Found) (row : Row) → t ≡ toUs p adr → not t ≡ false → g ≡ rowNamed q → g ≡ At row → x ≡ told p (row .0) s
-    → telling row x ≡ enquiryServed p s adr q
-unfolding enquiryServed
-enquiry-told p s adr q t x g row d h f n e = simp (sym d ∙ not-false t h, sym f ∙ n) (ap (telling row) e)
 
 -- ---- a SELECT of a row that there is
 module _ (p : Plant) (s adr : ℕ) (row : Row) (v : Value) (t : Bool) where
@@ -77,16 +70,6 @@ module _ (p : Plant) (s adr : ℕ) (row : Row) (v : Value) (t : Bool) where
   pub row-writes : (w : ℕ) (u : Bool) (r : Served) → t ≡ readOnly (row .0) → t ≡ false → v ≡ Word w → u ≡ stops p adr (row .0) w → u ≡ false → r ≡ wroteServed p s (row .0) w → r ≡ rowSelected p s adr row v
   unfolding rowSelected
   row-writes w u r d h n f k e = simp (sym d ∙ h, n, sym f ∙ k) e
-
--- ---- a write, as the plant permits it
-module _ (p : Plant) (s row w : ℕ) (x : Wrote) (e : x ≡ written p row w) where
-  pub wrote-done : (change : Change) → x .permit ≡ Write change → _≡_ {A = Served} (record { plant = x .plant; sioerr = s; answer = Answers.Written change }) (wroteServed p s row w)
-  unfolding wroteServed
-  wrote-done change h = simp (← e, h)
-
-  pub wrote-refused : (refusal : Refusal) → x .permit ≡ Refused refusal → _≡_ {A = Served} (record { plant = x .plant; sioerr = s; answer = Answers.Refused refusal }) (wroteServed p s row w)
-  unfolding wroteServed
-  wrote-refused refusal h = simp (← e, h)
 
 -- ---- the reply
 fits-none : (room : ℕ) → fitting [] room ≡ []

@@ -11,7 +11,7 @@ use Rattle.table.specs.Names.{SiAdr, SCMD}
 use Rattle.table.specs.Find.{rowOfE}
 use Rattle.table.specs.declared.labels.Row.{Row}
 use Rattle.table.specs.declared.labels.Found.{Found}
-use Rattle.table.specs.declared.labels.Found.the-variants.{At, NoRow}
+use Rattle.table.specs.declared.labels.Found.the-variants.{NoRow}
 use Rattle.nfo.specs.declared.message.Message.{Message}
 use Rattle.nfo.specs.declared.message.Message.the-variants.{Enquiry, Select}
 use Rattle.nfo.specs.declared.message.Parameter.{Parameter}
@@ -19,18 +19,14 @@ use Rattle.nfo.specs.declared.message.Parameter.the-variants.{Number, NoNumber}
 use Rattle.nfo.specs.declared.message.Value.{Value}
 use Rattle.nfo.specs.declared.message.Value.the-variants.{Word, NotHex}
 use Rattle.drive.specs.declared.plant.Plant.{Plant}
-use Rattle.drive.specs.declared.read.Told.{Told}
 use Rattle.drive.specs.declared.answer.Answer.{Answer}
 use Rattle.drive.specs.declared.answer.Answer.the-variants as Answers
 use Rattle.drive.specs.declared.write.Refusal.the-variants as Refusals
-use Rattle.drive.specs.declared.write.Permit.{Permit}
-use Rattle.drive.specs.declared.write.Permit.the-variants.{Write, Refused}
 use Rattle.drive.specs.Answer.{answerNumber}
 use Rattle.drive.specs.Faults.{only14, stopped}
-use Rattle.drive.specs.Read.{told}
 use Rattle.drive.specs.Refusals.{readOnly, writeLines}
-use Rattle.drive.specs.Write.{written}
-use Rattle.nfo_service.specs.declared.Served.{Served}
+use Rattle.service.specs.Serving.{isNone, theRow, keeping, toldServed, wroteServed}
+use Rattle.service.specs.declared.Served.{Served}
 
 -- ---- to whom a message speaks
 -- "ADR is address + 32"
@@ -53,19 +49,11 @@ unfoldable pub rowNamed : Parameter → Found
 rowNamed (Number e) = rowOfE (e .0)
 rowNamed NoNumber = NoRow
 
-abbrev pub isNone : Found → Bool
-isNone (At row) = false
-isNone NoRow = true
-
 abbrev pub notHex : Value → Bool
 notHex (Word w) = false
 notHex NotHex = true
 
--- where there is none, the lines below have refused it; these only fill the place
-abbrev pub theRow : Found → Row
-theRow (At row) = row
-theRow NoRow = record { 0 = 30 }
-
+-- where there is none, the lines below have refused it; this only fills the place
 abbrev pub theWord : Value → ℕ
 theWord (Word w) = w
 theWord NotHex = 0
@@ -89,17 +77,10 @@ pub nfo-order : (p : Plant) (adr : ℕ) (found : Found) (row : Row) (value : Val
 nfo-order p adr found row value = refl
 
 -- ---- what is done
--- "Refusals 2 to 9 change no state"
-abbrev pub keeping : Plant → ℕ → Answer → Served
-keeping p sioerr answer = record { plant = p; sioerr = sioerr; answer = answer }
-
-abbrev pub telling : Row → Told → Served
-telling row t = record { plant = t .plant; sioerr = t .sioerr; answer = Answers.Told row (t .word) }
-
 unfoldable pub enquiryServed : Plant → ℕ → ℕ → Parameter → Served
 enquiryServed p sioerr adr parameter =
     firstOf (saying (keeping p sioerr) (enquiryLines p adr (rowNamed parameter)))
-    (telling (theRow (rowNamed parameter)) (told p (theRow (rowNamed parameter) .0) sioerr))
+    (toldServed p sioerr (theRow (rowNamed parameter)))
 
 -- "A broadcast SELECT of SCMD 0 while 14 is the only flag zeroes SioErr and clears 14 with outcome 0, at any MODE"
 unfoldable pub stops : Plant → ℕ → ℕ → ℕ → Bool
@@ -108,15 +89,7 @@ stops p adr row w = both (toAll adr) (both (eqb row SCMD) (both (eqb w 0) (only1
 abbrev pub stopServed : Plant → Row → ℕ → Served
 stopServed p row w = record { plant = stopped p; sioerr = 0; answer = Answers.Written (record { row = row; word = w }) }
 
-abbrev pub permitted : Permit → Answer
-permitted (Write change) = Answers.Written change
-permitted (Refused refusal) = Answers.Refused refusal
-
--- refusals 4 to 7, or the write
-unfoldable pub wroteServed : Plant → ℕ → ℕ → ℕ → Served
-wroteServed p sioerr row w = record { plant = written p row w .plant; sioerr = sioerr; answer = permitted (written p row w .permit) }
-
--- a SELECT of a row that there is
+-- a SELECT of a row that there is: past these lines, refusals 4 to 7 or the write
 unfoldable pub rowSelected : Plant → ℕ → ℕ → Row → Value → Served
 rowSelected p sioerr adr row value =
     firstOf (saying (keeping p sioerr) (rowLines row value))

@@ -3,12 +3,13 @@
 // `serve` says what a message does and comes to; `write_answer` puts the reply into a lent buffer.
 use drive::Answer;
 use drive::Change;
-use drive::Permit;
 use drive::Plant;
 use drive::Refusal;
 use nfo::Message;
 use nfo::Parameter;
 use nfo::Value;
+use service::Served;
+use service::keep;
 use table::ENumber;
 use table::Found;
 use table::Row;
@@ -18,15 +19,8 @@ ghost use mathlib.Core.Path.{_≡_};
 ghost use lib.Dec.{eqb};
 ghost use lib.ListN.{length};
 ghost use Rattle.base.specs.Buffers.{front, fitting};
-ghost use Rattle.nfo_service.specs.Serve.{adrOf, toUs, reachesUs, rowNamed, keeping, stops, wroteServed, rowSelected, selectServed, enquiryServed, served};
+ghost use Rattle.nfo_service.specs.Serve.{adrOf, toUs, reachesUs, rowNamed, stops, rowSelected, selectServed, enquiryServed, served};
 ghost use Rattle.nfo_service.specs.Reply.{adrIn, parameterIn, numberOf, repliedBy, replied};
-
-// The plant and SioErr after a message, and what it came to.
-pub struct Served {
-    pub plant: Plant,
-    pub sioerr: u32,
-    pub answer: Answer,
-}
 
 // Serves a message: an ENQUIRY tells a row, a SELECT writes one. A refusal changes nothing.
 pub fn serve(plant: Plant, sioerr: u32, message: Message) -> Served
@@ -83,17 +77,6 @@ fn row_of(parameter: Parameter) -> Found
     e.row()
 }
 
-// Nothing changes.
-fn keep(plant: Plant, sioerr: u32, answer: Answer) -> Served
-    ensures { λ r. ⌜ r ≡ keeping plant sioerr answer ⌝ }
-{
-    Served {
-        plant,
-        sioerr,
-        answer,
-    }
-}
-
 fn enquire(plant: Plant, sioerr: u32, adr: u8, parameter: Parameter) -> Served
     ensures { λ r. ⌜ r ≡ enquiryServed plant sioerr adr parameter ⌝ }
 {
@@ -103,13 +86,7 @@ fn enquire(plant: Plant, sioerr: u32, adr: u8, parameter: Parameter) -> Served
     let Found::At(row) = row_of(parameter) else {
         return keep(plant, sioerr, Answer::Refused(Refusal::NoRow));
     };
-    let told = plant.read(row, sioerr);
-    let after = told.plant;
-    Served {
-        plant: after,
-        sioerr: told.sioerr,
-        answer: Answer::Told(row, told.word),
-    }
+    service::tell(plant, sioerr, row)
 }
 
 fn select(plant: Plant, sioerr: u32, adr: u8, parameter: Parameter, value: Value) -> Served
@@ -142,7 +119,7 @@ fn select_row(plant: Plant, sioerr: u32, adr: u8, row: Row, value: Value) -> Ser
             answer: Answer::Written(Change { row, word: w }),
         };
     }
-    write(plant, sioerr, row, w)
+    service::write(plant, sioerr, row, w)
 }
 
 // The broadcast stop: SCMD 0 to all, while 14 is the only flag.
@@ -159,27 +136,6 @@ fn is_stop(plant: Plant, adr: u8, row: Row, word: u32) -> bool
         return false;
     }
     plant.only_14()
-}
-
-// A write, as the plant permits it.
-fn write(plant: Plant, sioerr: u32, row: Row, word: u32) -> Served
-    ensures { λ r. ⌜ r ≡ wroteServed plant sioerr (row .0) word ⌝ }
-{
-    let wrote = plant.write(row, word);
-    let permit = wrote.permit;
-    let after = wrote.plant;
-    match permit {
-        Permit::Write(change) => Served {
-            plant: after,
-            sioerr,
-            answer: Answer::Written(change),
-        },
-        Permit::Refused(refusal) => Served {
-            plant: after,
-            sioerr,
-            answer: Answer::Refused(refusal),
-        },
-    }
 }
 
 // Puts the reply to a message at the start of a lent buffer, and tells its length: 0 where there is none, or where it does not fit.

@@ -28,11 +28,11 @@ keep-requires-2 c κs = search needs
 returns-2 : tie.Need-returns-2
 returns-2 c = search enquiry-none
 
-read-requires : tie.Need-read-requires
-read-requires c κs = search needs
+tell-requires : tie.Need-tell-requires
+tell-requires c κs = search needs
 
 returns-3 : tie.Need-returns-3
-returns-3 c = enquiry-told _ _ _ _ _ (c .before .read .result) _ _ (c .before .before .before .before .before .before .before .to-us .ensures) (c .before .before .before .before .before .before .if1 .left) (c .before .before .before .before .before .row-of .ensures) (c .before .before .before .row .given .1) (c .before .read .ensures)
+returns-3 c = search enquiry-told
 
 pub enquire-spec : {M : Type 1} → statement M
 enquire-spec =
@@ -46,5 +46,5 @@ enquire-spec =
     enum-told
     keep-requires-2
     returns-2
-    read-requires
+    tell-requires
     returns-3)

@@ -1,0 +1,30 @@
+-- What was read and what was written, as what serving comes to. Assumes nothing.
+use mathlib.Core.Path.{_≡_, ap}
+use Prim.Native.Nat.{ℕ}
+use Rattle.table.specs.declared.labels.Row.{Row}
+use Rattle.drive.specs.declared.plant.Plant.{Plant}
+use Rattle.drive.specs.declared.read.Told.{Told}
+use Rattle.drive.specs.declared.answer.Answer.the-variants as Answers
+use Rattle.drive.specs.declared.write.Refusal.{Refusal}
+use Rattle.drive.specs.declared.write.Permit.the-variants.{Write, Refused}
+use Rattle.drive.specs.declared.write.Change.{Change}
+use Rattle.drive.specs.declared.write.Wrote.{Wrote}
+use Rattle.drive.specs.Read.{told}
+use Rattle.drive.specs.Write.{written}
+use Rattle.service.specs.Serving.{telling, toldServed, wroteServed}
+use Rattle.service.specs.declared.Served.{Served}
+
+-- a read
+pub told-is : (p : Plant) (s : ℕ) (row : Row) (x : Told) → x ≡ told p (row .0) s → telling row x ≡ toldServed p s row
+unfolding toldServed
+told-is p s row x e = ap (telling row) e
+
+-- a write, as the plant permits it
+module _ (p : Plant) (s row w : ℕ) (x : Wrote) (e : x ≡ written p row w) where
+  pub wrote-done : (change : Change) → x .permit ≡ Write change → _≡_ {A = Served} (record { plant = x .plant; sioerr = s; answer = Answers.Written change }) (wroteServed p s row w)
+  unfolding wroteServed
+  wrote-done change h = simp (← e, h)
+
+  pub wrote-refused : (refusal : Refusal) → x .permit ≡ Refused refusal → _≡_ {A = Served} (record { plant = x .plant; sioerr = s; answer = Answers.Refused refusal }) (wroteServed p s row w)
+  unfolding wroteServed
+  wrote-refused refusal h = simp (← e, h)
