@@ -161,7 +161,7 @@ alike-add r t k l h a e =
     }
 
 module _ (P : Protocol) (L : Lawful (P .format)) (G : Feeding) (W : Follows (P .format) G) (one : Card → Pending → Received)
-    (takes : (c : Card) (q : Pending) → Sized q → P .format .formed (held q) ≡ true → Agree (one c q) (P .served c (held q)))
+    (takes : (c : Card) (q : Pending) → Sized q → P .format .formed (G .message q) ≡ true → Agree (one c q) (P .served c (G .message q)))
     (clears : (c : Card) (q : Pending) → Sized q → (held (one c q .card .port .pending) ≡ []) × Sized (one c q .card .port .pending))
     (fair : (c d : Card) (m : List ℕ) → besides c ≡ besides d → Agree (P .served c m) (P .served d m)) where
   abbrev F : Format
@@ -196,7 +196,7 @@ module _ (P : Protocol) (L : Lawful (P .format)) (G : Feeding) (W : Follows (P .
           (servedAll P d (messagesOf (y .taken ++ feedAll F (y .place) (y .pending) s .taken))) (feedAll F (y .place) (y .pending) s .pending)
       by true t ih =
           let w : F .formed (h ++ b ∷ []) ≡ true = sym formed-here ∙ t in
-          let hq : held q ≡ h ++ b ∷ [] = W .message (c .port .pending) b size viable-here t ∙ ap (λ (l : List ℕ). l ++ b ∷ []) p in
+          let hq : G .message q ≡ h ++ b ∷ [] = W .message (c .port .pending) b size viable-here t ∙ ap (λ (l : List ℕ). l ++ b ∷ []) p in
           let sq : Sized q = W .sized (c .port .pending) b size in
           let a : Agree (one c q) (P .served c (h ++ b ∷ [])) = rw hq at (takes c q sq (rw hq w)) in
           let g : Agree (one c q) (P .served d (h ++ b ∷ [])) = agree-on _ _ _ a (fair c d (h ++ b ∷ []) e) in

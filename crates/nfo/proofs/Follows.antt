@@ -126,5 +126,5 @@ pub nfo-follows : Follows nfo feeding
 nfo-follows = record { sized = fed-sized; formed = fed-formed; message = fed-message; waits = fed-waits }
 
 -- THE SCAN of the bytes s is document 01's stream call on them, where a beginning is pending: the bytes used, the message, the bytes pending
-pub scan-is : (p : Pending) (s : List ℕ) → Sized p → viable (held p) ≡ true → seenIn (scanFrom feeding p 0 s) ≡ scanned nfo (held p) s
+pub scan-is : (p : Pending) (s : List ℕ) → Sized p → viable (held p) ≡ true → seenIn feeding (scanFrom feeding p 0 s) ≡ scanned nfo (held p) s
 scan-is p s size v = scan-follows nfo nfo-lawful feeding nfo-follows s p 0 size v ∙ further-none (scanned nfo (held p) s)

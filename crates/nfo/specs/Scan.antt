@@ -8,7 +8,7 @@ use lib.Dec.{eqb, ltb}
 use lib.ListN.{length, getD}
 use Rattle.base.specs.Choice.{pick, both}
 use Rattle.pending.specs.declared.Pending.{Pending}
-use Rattle.pending.specs.Held.{emptied, pushed, restarted}
+use Rattle.pending.specs.Held.{held, emptied, pushed, restarted}
 use Rattle.pending.specs.Scanning.{Feeding}
 use Rattle.nfo.specs.Shape.{Kind, any, fits}
 use Rattle.nfo.specs.Message.{enquiry, select, bccIn}
@@ -56,4 +56,4 @@ unfoldable pub fed : Pending → ℕ → Pending
 fed p b = nextBy (stepAfter p b) (eqb b (bccIn (p .bytes))) p b
 
 abbrev pub feeding : Feeding
-feeding = record { ends = ends; next = fed }
+feeding = record { ends = ends; next = fed; message = held }

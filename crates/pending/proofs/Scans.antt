@@ -25,7 +25,7 @@ use Rattle.pending.specs.Scanning.{Feeding, scanFrom, scanOn, seenIn, Fo
 abbrev pub Scanning : Feeding → Pending → List ℕ → Pending → ℕ → Type 0
 Scanning G p₀ s p i = (i ≤ length s) × (scanFrom G p i (drop i s) ≡ scanFrom G p₀ 0 s)
 
-scan-turn : (G : Feeding) (s : List ℕ) (p : Pending) (i : ℕ) → i < length s
+pub scan-turn : (G : Feeding) (s : List ℕ) (p : Pending) (i : ℕ) → i < length s
     → scanFrom G p i (drop i s)
     ≡ pick (G .ends p (getD s i 0))
     (record { pending = G .next p (getD s i 0); used = i + 1; taken = true })
@@ -105,14 +105,14 @@ module _ (F : Format) (L : Lawful F) (G : Feeding) (W : Follows F G) where
       by false k ih = ih k
 
   -- its scan is the format's stream call, where a beginning is pending
-  pub scan-follows : (s : List ℕ) (p : Pending) (n : ℕ) → Sized p → F .viable (held p) ≡ true → seenIn (scanFrom G p n s) ≡ further n (scanned F (held p) s)
+  pub scan-follows : (s : List ℕ) (p : Pending) (n : ℕ) → Sized p → F .viable (held p) ≡ true → seenIn G (scanFrom G p n s) ≡ further n (scanned F (held p) s)
   unfolding scanFrom
   scan-follows [] p n h v = rw (scanned-end, add-zero)
   scan-follows (b ∷ s) p n h v = by (G .ends p b) refl (scan-follows s (G .next p b) (n + 1) (W .sized p b h))
     where
       by : (t : Bool) → G .ends p b ≡ t
-          → (F .viable (held (G .next p b)) ≡ true → seenIn (scanFrom G (G .next p b) (n + 1) s) ≡ further (n + 1) (scanned F (held (G .next p b)) s))
-          → seenIn (pick t (record { pending = G .next p b; used = n + 1; taken = true }) (scanFrom G (G .next p b) (n + 1) s))
+          → (F .viable (held (G .next p b)) ≡ true → seenIn G (scanFrom G (G .next p b) (n + 1) s) ≡ further (n + 1) (scanned F (held (G .next p b)) s))
+          → seenIn G (pick t (record { pending = G .next p b; used = n + 1; taken = true }) (scanFrom G (G .next p b) (n + 1) s))
           ≡ further n (scanned F (held p) (b ∷ s))
       by true e ih = let w : F .formed (held p ++ b ∷ []) ≡ true = sym (W .formed p b h v) ∙ e in rw (scanned-takes F (held p) b s w, W .message p b h v e)
       by false e ih =
@@ -123,7 +123,7 @@ module _ (F : Format) (L : Lawful F) (G : Feeding) (W : Follows F G) where
 
   -- what it leaves: a message, or a beginning
   pub scan-leaves : (s : List ℕ) (p : Pending) (n : ℕ) → Sized p → F .viable (held p) ≡ true
-      → (scanFrom G p n s .taken ≡ true → F .formed (held (scanFrom G p n s .pending)) ≡ true)
+      → (scanFrom G p n s .taken ≡ true → F .formed (G .message (scanFrom G p n s .pending)) ≡ true)
       × (scanFrom G p n s .taken ≡ false → F .viable (held (scanFrom G p n s .pending)) ≡ true)
   unfolding scanFrom
   scan-leaves [] p n h v = (λ e. absurd (false≢true e), λ e. v)
@@ -131,10 +131,10 @@ module _ (F : Format) (L : Lawful F) (G : Feeding) (W : Follows F G) where
     where
       by : (t : Bool) → G .ends p b ≡ t
           → (F .viable (held (G .next p b)) ≡ true
-          → (scanFrom G (G .next p b) (n + 1) s .taken ≡ true → F .formed (held (scanFrom G (G .next p b) (n + 1) s .pending)) ≡ true)
+          → (scanFrom G (G .next p b) (n + 1) s .taken ≡ true → F .formed (G .message (scanFrom G (G .next p b) (n + 1) s .pending)) ≡ true)
           × (scanFrom G (G .next p b) (n + 1) s .taken ≡ false → F .viable (held (scanFrom G (G .next p b) (n + 1) s .pending)) ≡ true))
           → (pick t (record { pending = G .next p b; used = n + 1; taken = true }) (scanFrom G (G .next p b) (n + 1) s) .taken ≡ true
-          → F .formed (held (pick t (record { pending = G .next p b; used = n + 1; taken = true }) (scanFrom G (G .next p b) (n + 1) s) .pending)) ≡ true)
+          → F .formed (G .message (pick t (record { pending = G .next p b; used = n + 1; taken = true }) (scanFrom G (G .next p b) (n + 1) s) .pending)) ≡ true)
           × (pick t (record { pending = G .next p b; used = n + 1; taken = true }) (scanFrom G (G .next p b) (n + 1) s) .taken ≡ false
           → F .viable (held (pick t (record { pending = G .next p b; used = n + 1; taken = true }) (scanFrom G (G .next p b) (n + 1) s) .pending)) ≡ true)
       by true e ih = (λ q. rw (W .message p b h v e) (sym (W .formed p b h v) ∙ e), λ q. absurd (true≢false q))

@@ -11,10 +11,12 @@ use Rattle.pending.specs.declared.Pending.{Pending}
 use Rattle.pending.specs.declared.Scan.{Scan}
 use Rattle.pending.specs.Held.{held, Sized}
 
--- what a protocol makes of one byte: whether it ends a message, and what is pending then. Where it ends one, the message's bytes are
+-- what a protocol makes of one byte: whether it ends a message, and what is held then; and the message that is held where one has ended. (A last
+-- byte that all messages share is part of the message, and need not be held.)
 pub record Feeding : Type 0 where
   pub ends : Pending → ℕ → Bool
   pub next : Pending → ℕ → Pending
+  pub message : Pending → List ℕ
 
 -- "A stream call uses bytes up to the end of the first message taken, or all": n bytes were used before
 unfoldable pub scanFrom : Feeding → Pending → ℕ → List ℕ → Scan
@@ -28,13 +30,13 @@ scanFrom G p n (b ∷ s) =
 abbrev pub scanOn : Feeding → Scan → List ℕ → Scan
 scanOn G r z = pick (r .taken) r (scanFrom G (r .pending) (r .used) z)
 
--- a scan as the reading sees it. What is held after a message is the message, and nothing is pending
-abbrev pub seenIn : Scan → Seen
-seenIn r = record { used = r .used; messages = pick (r .taken) (held (r .pending) ∷ []) []; pending = pick (r .taken) [] (held (r .pending)) }
+-- a scan as the reading sees it. After a message that message is held, and nothing is pending
+abbrev pub seenIn : Feeding → Scan → Seen
+seenIn G r = record { used = r .used; messages = pick (r .taken) (G .message (r .pending) ∷ []) []; pending = pick (r .taken) [] (held (r .pending)) }
 
 -- the feeding does what the reading of the format does, where a beginning is pending
 pub record Follows (F : Format) (G : Feeding) : Type 0 where
   pub sized : (p : Pending) (b : ℕ) → Sized p → Sized (G .next p b)
   pub formed : (p : Pending) (b : ℕ) → Sized p → F .viable (held p) ≡ true → G .ends p b ≡ F .formed (held p ++ b ∷ [])
-  pub message : (p : Pending) (b : ℕ) → Sized p → F .viable (held p) ≡ true → G .ends p b ≡ true → held (G .next p b) ≡ held p ++ b ∷ []
+  pub message : (p : Pending) (b : ℕ) → Sized p → F .viable (held p) ≡ true → G .ends p b ≡ true → G .message (G .next p b) ≡ held p ++ b ∷ []
   pub waits : (p : Pending) (b : ℕ) → Sized p → F .viable (held p) ≡ true → G .ends p b ≡ false → held (G .next p b) ≡ feed F 0 (held p) b .pending

@@ -10,7 +10,7 @@ pub struct Pending {
 }
 
 // What a scan leaves: what is pending then, how many bytes it used, and whether they end a message. Where they do, `pending` holds
-// the message's bytes.
+// the message, as the protocol's feeding has it.
 pub struct Scan {
     pub pending: Pending,
     pub used: usize,
