@@ -96,7 +96,7 @@ pub record Decoding (text bytes₀ bytes : List ℕ) (i : ℕ) : Type 0 where
 pub decode-starts : (text bytes : List ℕ) → Decoding text bytes bytes 0
 decode-starts text bytes = record { passed = omega arith; kept = refl; count = omega arith; left = refl }
 
-next-pair : (t : List ℕ) (i : ℕ) → 2 * i + 1 < length t
+pub next-pair : (t : List ℕ) (i : ℕ) → 2 * i + 1 < length t
     → bytesOf (drop (2 * i) t) ≡ spelt (pairValue (getD t (2 * i) 0) (getD t (2 * i + 1) 0)) (bytesOf (drop (2 * (i + 1)) t))
 unfolding bytesOf
 next-pair t i h =
