@@ -1,0 +1,46 @@
+-- `ascii_scan::scan` meets its contract. The invariant: scanning the bytes left gives the whole. Assumes nothing.
+use mathlib.Core.Path.{refl}
+use Prim.Native.Nat.{_-_}
+use native.Mathlib.Omega.{arith}
+use borrow.Author.Needs.{needs}
+use lib.ListN.{length}
+use Rattle.pending.proofs.Scans.{Scanning, scan-takes, scan-done}
+use Rattle.ascii_scan.specs.Scan.{feeding}
+use Rattle.ascii_scan.proofs.Running.{scan-runs}
+use Rattle.ascii_scan.proofs.scanning.scan.Statement.{statement}
+use Rattle.ascii_scan.proofs.scanning.scan.Tie as tie
+
+abbrev Inv-loop : tie.InvT-loop
+Inv-loop bytes held₀ n₀ i₀ held n i = Scanning feeding (record { bytes = held₀; len = n₀ }) bytes (record { bytes = held; len = n }) i
+
+abbrev μ-loop : tie.MeasureT-loop
+μ-loop bytes held₀ n₀ i₀ held n i = length bytes - i
+
+loop-holds : tie.Need-loop-holds Inv-loop μ-loop
+loop-holds c = (omega arith, refl)
+
+returns : tie.Need-returns Inv-loop μ-loop
+returns c = search scan-takes
+
+loop-again : tie.Need-loop-again Inv-loop μ-loop
+loop-again c = search scan-runs
+
+returns-2 : tie.Need-returns-2 Inv-loop μ-loop
+returns-2 c = search scan-done
+
+pub scan-spec : {M : Type 1} → statement M
+scan-spec =
+    tie.close
+    (tie.spec
+    Inv-loop
+    μ-loop
+    loop-holds
+    (λ c. search needs)
+    (λ c κs. search needs)
+    (λ c. search needs)
+    returns
+    (λ c. search needs)
+    (λ c κs. search needs)
+    (λ c. search needs)
+    loop-again
+    returns-2)

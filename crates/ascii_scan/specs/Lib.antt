@@ -1,0 +1,4 @@
+pub mod Pairs
+pub mod Scan
+pub mod Parts
+pub mod Cases
