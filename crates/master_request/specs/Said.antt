@@ -1,0 +1,24 @@
+-- What the card is to read of what a master asks: "What the master side writes is read by the card as that same request". Assumes nothing.
+use mathlib.Core.List.{List}
+use Prim.Native.Nat.{ℕ, _+_, _/_, _<_}
+use lib.ListN.{length}
+use Rattle.base.specs.Bytes.{Bytes}
+use Rattle.modbus.specs.Request.{span}
+use Rattle.modbus.specs.declared.requests.Request.{Request}
+use Rattle.modbus.specs.declared.requests.Request.the-variants.{Read, One, Many}
+use Rattle.master_request.specs.declared.Ask.{Ask}
+use Rattle.master_request.specs.declared.Ask.the-variants as ask
+
+-- the same function, label and number; the register bytes of a 16 from the unit's seventh byte on
+abbrev pub requestSaid : Ask → List ℕ → Request
+requestSaid (ask.Holding first count) registers = Read 3 first count
+requestSaid (ask.Input first count) registers = Read 4 first count
+requestSaid (ask.One register word) registers = One register word
+requestSaid (ask.Many first) registers = Many first (length registers / 2) (span 6 (6 + length registers))
+
+-- its numbers are in their widths, as those of every `Ask` are
+abbrev pub InWidth : Ask → List ℕ → Type 0
+InWidth (ask.Holding first count) registers = (first .0 < 65536) × (count < 65536)
+InWidth (ask.Input first count) registers = (first .0 < 65536) × (count < 65536)
+InWidth (ask.One register word) registers = (register .0 < 65536) × (word < 65536)
+InWidth (ask.Many first) registers = (first .0 < 65536) × Bytes registers
