@@ -77,7 +77,7 @@ take-done u words count i h t k =
     ∙ sets-front (wordsFrom u 2 count) (replicate 125 0) (omega (arith, words-length u 2 count))
 
 -- ---- a reply brings 125 registers at most
-count-out : (b : ℕ) → readCount b ≡ true → (b % 2 ≡ 0) × (2 ≤ b) × (b ≤ 250)
+pub count-out : (b : ℕ) → readCount b ≡ true → (b % 2 ≡ 0) × (2 ≤ b) × (b ≤ 250)
 unfolding readCount
 count-out b e =
     let h = both-out (eqb (b % 2) 0) (between 2 250 b) e in

@@ -147,7 +147,14 @@ fn reply_of(address: u8, unit: &[u8]) -> Reply
     let function = byte_at(unit, 0);
     let second = byte_at(unit, 1);
     let register = word_at(unit, 1);
-    told(address, unit.len(), function, second, register, word_at(unit, 3))
+    told(
+        address,
+        unit.len(),
+        function,
+        second,
+        register,
+        word_at(unit, 3),
+    )
 }
 
 // How many registers a reply brings.
