@@ -8,10 +8,12 @@ use native.Mathlib.Omega.{arith}
 use borrow.Author.Tests.{le-leb, lt-leb, eq-eqb, ne-eqb, leb-true, eqb-true}
 use lib.Bits.{bitOr, or-add-and, and-le-l}
 use lib.Dec.{leb, eqb}
-use lib.ListN.{length, getD}
+use lib.ListN.{length, take, getD, replicate}
 use Rattle.base.specs.Choice.{both}
 use Rattle.base.specs.Bytes.{AllBelow, Bytes}
+use Rattle.base.specs.Buffers.{front}
 use Rattle.base.proofs.Tests.{both-out, both-in, pick-both}
+use Rattle.base.proofs.Sets.{take-front}
 use Rattle.modbus.specs.Words.{wordBytes, longBytes, wordAt}
 use Rattle.modbus.specs.Request.{label, between}
 use Rattle.modbus.specs.Answer.{unitOf}
@@ -20,8 +22,8 @@ use Rattle.modbus.specs.declared.answers.Answer.the-variants as answer
 use Rattle.master_reply.specs.declared.Reply.{Reply}
 use Rattle.master_reply.specs.declared.Reply.the-variants.{Data, One, Many, Exception, NotAReply}
 use Rattle.master_reply.specs.Reply.{replyNumber, readCount, tellsData, tellsOne, tellsMany, tellsException, told, replyOf, registersOf, wordsFrom, heard, heardOf}
-use Rattle.master_reply.specs.Told.{wordsBytes, addressOf, replyUnit, Within, IsReply, replyTo, wordsTold, IsAnswer}
-use Rattle.master_reply.proofs.Units.{reply-read, count-out}
+use Rattle.master_reply.specs.Told.{wordsBytes, addressOf, replyUnit, wordsHeard, Within, IsReply, IsMessage, replyTo, wordsTold, IsAnswer}
+use Rattle.master_reply.proofs.Units.{reply-read, count-out, words-length}
 use Rattle.master_reply.proofs.Words.{word-own, bytes-own, shift-words, bytes-length, words-again, bytes-again}
 
 -- ---- what each kind of unit tells
@@ -106,10 +108,10 @@ answer-heard a (answer.Echo f r n) h (inr k) = rw (k .0) (reply-heard (Many a r 
 answer-heard a (answer.Exception f c) h k = reply-heard (Exception a (bitOr f 0x80) c) [] (h, top-set f, k) refl
 
 -- ---- what is read as a reply is one, and its unit is that reply's: "Else 14, and only then"
-pub record Told (a : ℕ) (u : List ℕ) (r : Reply) : Type 0 where
-  pub address : addressOf r ≡ a
-  pub is : IsReply r
-  pub unit : u ≡ replyUnit r (wordsFrom u 2 (registersOf r))
+record Told (a : ℕ) (u : List ℕ) (r : Reply) : Type 0 where
+  address : addressOf r ≡ a
+  is : IsReply r
+  unit : u ≡ replyUnit r (wordsFrom u 2 (registersOf r))
 
 data-unit : (u : List ℕ) (n : ℕ) → Bytes u → length u ≡ 2 * n + 2 → getD u 1 0 ≡ 2 * n → u ≡ getD u 0 0 ∷ 2 * n ∷ wordsBytes (wordsFrom u 2 n)
 unfolding AllBelow
@@ -187,7 +189,7 @@ module _ (a : ℕ) (u : List ℕ) (below : Bytes u) (w : Within 1 247 a) where
 abbrev ToldOr14 : ℕ → List ℕ → Reply → Type 0
 ToldOr14 a u r = replyNumber r ≡ 0 → Told a u r
 
-pub reply-only : (a : ℕ) (u : List ℕ) → Bytes u → replyNumber (replyOf a u) ≡ 0 → Told a u (replyOf a u)
+reply-only : (a : ℕ) (u : List ℕ) → Bytes u → replyNumber (replyOf a u) ≡ 0 → Told a u (replyOf a u)
 unfolding replyOf told
 reply-only a u below =
     let n : ℕ = length u in
@@ -200,3 +202,41 @@ reply-only a u below =
     (λ _. pick-both (ToldOr14 a u) (tellsMany n f (wordAt u 3)) (λ t _. many-only a u below w t)
     (λ _. pick-both (ToldOr14 a u) (tellsException n f b) (λ t _. exception-only a u below w t) (λ _ z. absurd (omega arith))))))
     (λ _ z. absurd (omega arith))
+
+-- the words heard are those of the unit
+heard-words : (a : ℕ) (u : List ℕ) → wordsHeard (heardOf a u) ≡ wordsFrom u 2 (registersOf (replyOf a u))
+unfolding heardOf
+heard-words a u =
+    let ws : List ℕ = wordsFrom u 2 (registersOf (replyOf a u)) in
+    ap (λ (n : ℕ). take n (front ws (replicate 125 0))) (sym (words-length u 2 (registersOf (replyOf a u)))) ∙ take-front ws (replicate 125 0)
+
+pub heard-only : (made : ℕ → List ℕ → List ℕ) (a : ℕ) (u bytes : List ℕ) → Bytes u → bytes ≡ made a u → replyNumber (heardOf a u .reply) ≡ 0
+    → IsMessage made bytes (heardOf a u)
+unfolding heardOf
+heard-only made a u bytes below is e =
+    let t = reply-only a u below e in
+    (t .is, is ∙ ap₂ made (sym (t .address)) (t .unit ∙ ap (replyUnit (replyOf a u)) (sym (heard-words a u))))
+
+-- ---- a reply's unit fits a message
+pub reply-some : (r : Reply) (ws : List ℕ) → IsReply r → 1 ≤ length (replyUnit r ws)
+unfolding replyUnit wordBytes
+reply-some (Data a f n) ws h = omega arith
+reply-some (One a r w) ws h = omega arith
+reply-some (Many a r n) ws h = omega arith
+reply-some (Exception a f c) ws h = omega arith
+reply-some NotAReply ws h = absurd h
+
+pub reply-most : (r : Reply) (ws : List ℕ) → IsReply r → length ws ≡ registersOf r → length (replyUnit r ws) ≤ 252
+unfolding replyUnit wordBytes
+reply-most (Data a f n) ws h e = omega (arith, bytes-length ws, h .2 .1)
+reply-most (One a r w) ws h e = omega arith
+reply-most (Many a r n) ws h e = omega arith
+reply-most (Exception a f c) ws h e = omega arith
+reply-most NotAReply ws h e = absurd h
+
+pub answer-some : (x : Answer) → 1 ≤ length (unitOf x)
+unfolding unitOf
+answer-some (answer.Word f w) = omega arith
+answer-some (answer.Long f v) = omega arith
+answer-some (answer.Echo f r n) = omega arith
+answer-some (answer.Exception f c) = omega arith

@@ -5,12 +5,15 @@ use mathlib.Core.List.{List, [], _∷_, _++_}
 use Prim.Native.Nat.{ℕ, _*_, _/_, _%_, _≤_}
 use lib.Bits.{bitOr}
 use lib.Dec.{eqb}
+use lib.ListN.{take}
 use Rattle.base.specs.Choice.{pick}
 use Rattle.modbus.specs.Words.{wordBytes}
 use Rattle.modbus.specs.declared.answers.Answer.{Answer}
 use Rattle.modbus.specs.declared.answers.Answer.the-variants as answer
+use Rattle.master_reply.specs.declared.Heard.{Heard}
 use Rattle.master_reply.specs.declared.Reply.{Reply}
 use Rattle.master_reply.specs.declared.Reply.the-variants.{Data, One, Many, Exception, NotAReply}
+use Rattle.master_reply.specs.Reply.{registersOf}
 
 -- "Words go high byte first"
 unfoldable pub wordsBytes : List ℕ → List ℕ
@@ -32,6 +35,10 @@ replyUnit (Many address first count) words = 16 ∷ wordBytes (first .0) ++ word
 replyUnit (Exception address function code) words = function ∷ code ∷ []
 replyUnit NotAReply words = []
 
+-- the words that were heard of a read
+abbrev pub wordsHeard : Heard → List ℕ
+wordsHeard h = take (registersOf (h .reply)) (h .words)
+
 -- "address 1 to 247 and a normal answer of the four functions (a read: even byte count 2 to 250; 16: count 1 to 123) or exception 01 to 04 with any
 -- function byte from 80h up"
 abbrev pub Within : ℕ → ℕ → ℕ → Type 0
@@ -43,6 +50,10 @@ IsReply (One address register word) = Within 1 247 address
 IsReply (Many address first count) = Within 1 247 address × Within 1 123 count
 IsReply (Exception address function code) = Within 1 247 address × (0x80 ≤ function) × Within 1 4 code
 IsReply NotAReply = ⊥
+
+-- the bytes are the message of the reply that was heard, as its line makes messages of an address and a unit
+abbrev pub IsMessage : (ℕ → List ℕ → List ℕ) → List ℕ → Heard → Type 0
+IsMessage made bytes h = IsReply (h .reply) × (bytes ≡ made (addressOf (h .reply)) (replyUnit (h .reply) (wordsHeard h)))
 
 -- what a master is to hear of an answer, and the words of a read, "32-bit values low word first"
 abbrev pub replyTo : ℕ → Answer → Reply

@@ -1,8 +1,9 @@
 -- What the card is to read of what a master asks: "What the master side writes is read by the card as that same request". Assumes nothing.
-use mathlib.Core.List.{List}
+use mathlib.Core.List.{List, []}
 use Prim.Native.Nat.{ℕ, _+_, _/_, _<_}
 use lib.ListN.{length}
 use Rattle.base.specs.Bytes.{Bytes}
+use Rattle.modbus.specs.Words.{wordBytes}
 use Rattle.modbus.specs.Request.{span}
 use Rattle.modbus.specs.declared.requests.Request.{Request}
 use Rattle.modbus.specs.declared.requests.Request.the-variants.{Read, One, Many}
@@ -15,6 +16,13 @@ requestSaid (ask.Holding first count) registers = Read 3 first count
 requestSaid (ask.Input first count) registers = Read 4 first count
 requestSaid (ask.One register word) registers = One register word
 requestSaid (ask.Many first) registers = Many first (length registers / 2) (span 6 (6 + length registers))
+
+-- the register data of a 06 or 16
+abbrev pub dataSaid : Ask → List ℕ → List ℕ
+dataSaid (ask.Holding first count) registers = []
+dataSaid (ask.Input first count) registers = []
+dataSaid (ask.One register word) registers = wordBytes word
+dataSaid (ask.Many first) registers = registers
 
 -- its numbers are in their widths, as those of every `Ask` are
 abbrev pub InWidth : Ask → List ℕ → Type 0
