@@ -1,7 +1,8 @@
 -- `master_rtu::write_request` meets its contract: `put_request` stored the address and the unit in the array, so the CRC is that of these, and the frame is
 -- sent. A request that can be said has room in the array. Assumes nothing.
 use borrow.Author.Needs.{needs}
-use Rattle.master_rtu.proofs.Requests.{unsaid, unsaid-lent, never-short, never-short-lent, low-within, high-within, end-fits, end-within, all-within, frame-sent, frame-lent}
+use Rattle.master_request.proofs.Bodies.{unsaid, unsaid-lent, never-short, never-short-lent, first-within, second-within, end-fits, end-within}
+use Rattle.master_rtu.proofs.Requests.{all-within, frame-sent, frame-lent}
 use Rattle.master_rtu.proofs.write_request.Statement.{statement}
 use Rattle.master_rtu.proofs.write_request.Tie as tie
 
@@ -9,13 +10,13 @@ part-crc-end : tie.Need-part-crc-end
 part-crc-end c = search end-within
 
 array-write-frame : tie.Need-array-write-frame
-array-write-frame c = search low-within
+array-write-frame c = search first-within
 
 add-frame : tie.Need-add-frame
 add-frame c = search (end-fits, needs)
 
 array-write-frame-2 : tie.Need-array-write-frame-2
-array-write-frame-2 c = search high-within
+array-write-frame-2 c = search second-within
 
 add-all : tie.Need-add-all
 add-all c = search (end-fits, needs)
