@@ -1,0 +1,3 @@
+pub mod Requests
+pub mod Texts
+pub mod Replies
