@@ -1,5 +1,5 @@
 -- What a text answers, by the code's tests and calls. Assumes nothing.
-use mathlib.Core.Path.{_≡_, refl, sym, ap, ap₂, _∙_}
+use mathlib.Core.Path.{_≡_, sym, ap, ap₂, _∙_}
 use mathlib.Core.Bool.{Bool, true, false}
 use mathlib.Core.List.{List, [], _∷_}
 use Prim.Native.Nat.{ℕ, suc, _+_, _-_, _*_, _≤_, _<_}
@@ -14,7 +14,7 @@ use Rattle.base.proofs.Tests.{is-false, not-both, both-false}
 use Rattle.base.proofs.Sets.{take-sets}
 use Rattle.hex.specs.Hex.{bytesOf}
 use Rattle.checks.specs.Lrc.{addsToZero}
-use Rattle.ascii.specs.Ascii.{bytesIn, counted, right, formed, addressIn, unitIn}
+use Rattle.ascii.specs.Ascii.{counted, right, formed, addressIn, unitIn}
 use Rattle.ascii.proofs.Message.{counted-in}
 use Rattle.master_reply.specs.declared.Heard.{Heard}
 use Rattle.master_reply.specs.declared.Reply.the-variants.{NotAReply}

@@ -1,6 +1,6 @@
 -- A text that begins with `:` and ends with CR LF, and the bytes that the characters between spell: it is a message exactly where these are all of it, and right.
 -- Assumes nothing.
-use mathlib.Core.Path.{_≡_, refl, sym, ap, ap₂, _∙_}
+use mathlib.Core.Path.{_≡_, refl, sym, ap, _∙_}
 use mathlib.Core.Bool.{Bool, true, false}
 use mathlib.Core.List.{List, [], _∷_, _++_}
 use Prim.Native.Nat.{ℕ, suc, _+_, _-_, _*_, _≤_, _<_}
@@ -123,7 +123,6 @@ module _ (b : List ℕ) (low : 3 ≤ length b) (high : length b ≤ 255) where
   text-framed : Framed (textOf b)
   unfolding textOf
   text-framed =
-      let p : List ℕ = 0x3A ∷ hexOf b in
       let n : length (textOf b) ≡ 2 * length b + 3 = text-length b in
       let k : length (0x3A ∷ hexOf b) ≡ length (textOf b) - 2 = omega (arith, n, length-hex b) in
       let l : length (textOf b) - 1 ≡ length (0x3A ∷ hexOf b) + 1 = omega (arith, n, length-hex b) in
@@ -131,8 +130,8 @@ module _ (b : List ℕ) (low : 3 ≤ length b) (high : length b ≤ 255) where
         least = omega (arith, n);
         most = omega (arith, n);
         colon = refl;
-        cr = getD-at p 0x0D (0x0A ∷ []) 0 (length (textOf b) - 2) k;
-        lf = ap (λ (i : ℕ). getD (textOf b) i 0) l ∙ getD-append-add p (0x0D ∷ 0x0A ∷ []) 1 0;
+        cr = getD-at (0x3A ∷ hexOf b) 0x0D (0x0A ∷ []) 0 (length (textOf b) - 2) k;
+        lf = rw l (getD-append-add (0x3A ∷ hexOf b) (0x0D ∷ 0x0A ∷ []) 1 0);
       }
 
   text-inner : inner (textOf b) ≡ hexOf b

@@ -1,14 +1,14 @@
 -- What the code's tests and calls show of a reply's unit, and the loop that takes its words, turn by turn. Assumes nothing.
 use mathlib.Core.Path.{_≡_, refl, sym, ap, _∙_}
-use mathlib.Core.Bool.{Bool, true, false}
-use mathlib.Core.List.{List, [], _∷_}
-use Prim.Native.Nat.{ℕ, zero, suc, _+_, _-_, _*_, _/_, _%_, _≤_, _<_}
+use mathlib.Core.Bool.{true}
+use mathlib.Core.List.{List, _∷_}
+use Prim.Native.Nat.{ℕ, zero, suc, _+_, _-_, _*_, _%_, _≤_, _<_}
 use native.Mathlib.Nat.{sub-zero}
 use native.Mathlib.Numerals.{add-one}
 use native.Mathlib.Omega.{arith}
 use borrow.Author.Tests.{le-leb, lt-leb, eqb-true, leb-true}
 use lib.Dec.{leb, eqb}
-use lib.ListN.{length, getD, set, length-set, replicate, length-replicate}
+use lib.ListN.{length, getD, set, length-set, replicate}
 use lib.Seq.{sets}
 use Rattle.base.specs.Choice.{both}
 use Rattle.base.specs.Buffers.{front}
@@ -18,7 +18,7 @@ use Rattle.modbus.specs.Words.{wordAt}
 use Rattle.modbus.specs.Request.{between}
 use Rattle.master_reply.specs.declared.Heard.{Heard}
 use Rattle.master_reply.specs.declared.Reply.{Reply}
-use Rattle.master_reply.specs.declared.Reply.the-variants.{Data, One, Many, Exception, NotAReply}
+use Rattle.master_reply.specs.declared.Reply.the-variants.{NotAReply}
 use Rattle.master_reply.specs.Reply.{readCount, tellsData, tellsOne, tellsMany, tellsException, told, replyOf, registersOf, wordsFrom, heardOf}
 
 -- ---- what was read of the unit is what the definition reads

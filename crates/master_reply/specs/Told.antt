@@ -2,11 +2,12 @@
 use mathlib.Core.Logic.{_⊎_}
 use mathlib.Core.Path.{_≡_}
 use mathlib.Core.List.{List, [], _∷_, _++_}
-use Prim.Native.Nat.{ℕ, _*_, _/_, _%_, _≤_}
+use Prim.Native.Nat.{ℕ, _*_, _/_, _%_, _≤_, _<_}
 use lib.Bits.{bitOr}
 use lib.Dec.{eqb}
 use lib.ListN.{take}
 use Rattle.base.specs.Choice.{pick}
+use Rattle.base.specs.Bytes.{AllBelow}
 use Rattle.modbus.specs.Words.{wordBytes}
 use Rattle.modbus.specs.declared.answers.Answer.{Answer}
 use Rattle.modbus.specs.declared.answers.Answer.the-variants as answer
@@ -50,6 +51,14 @@ IsReply (One address register word) = Within 1 247 address
 IsReply (Many address first count) = Within 1 247 address × Within 1 123 count
 IsReply (Exception address function code) = Within 1 247 address × (0x80 ≤ function) × Within 1 4 code
 IsReply NotAReply = ⊥
+
+-- its other numbers are in their widths, as those of every `Reply` are
+abbrev pub InWidth : Reply → List ℕ → Type 0
+InWidth (Data address function count) words = AllBelow 65536 words
+InWidth (One address register word) words = (register .0 < 65536) × (word < 65536)
+InWidth (Many address first count) words = (first .0 < 65536) × (count < 65536)
+InWidth (Exception address function code) words = function < 256
+InWidth NotAReply words = ⊥
 
 -- the bytes are the message of the reply that was heard, as its line makes messages of an address and a unit
 abbrev pub IsMessage : (ℕ → List ℕ → List ℕ) → List ℕ → Heard → Type 0

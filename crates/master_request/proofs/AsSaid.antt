@@ -13,7 +13,6 @@ use Rattle.base.proofs.Tests.{both-out, both-in}
 use Rattle.table.specs.declared.labels.Register.{Register}
 use Rattle.modbus.specs.Words.{wordBytes, wordAt}
 use Rattle.modbus.specs.Request.{between, span, reads, writes, asked, requestOf}
-use Rattle.modbus.specs.declared.requests.Request.{Request}
 use Rattle.modbus.specs.declared.requests.Request.the-variants as request
 use Rattle.modbus.proofs.Laws.{asked-read, asked-one, asked-many}
 use Rattle.master_request.specs.declared.Ask.{Ask}

@@ -2,7 +2,7 @@
 use mathlib.Core.Path.{_≡_, sym, ap, _∙_}
 use mathlib.Core.Bool.{Bool, true, false, not}
 use mathlib.Core.List.{List, [], _∷_, _++_}
-use Prim.Native.Nat.{ℕ, _+_, _-_, _*_, _/_, _%_, _≤_, _<_}
+use Prim.Native.Nat.{ℕ, _+_, _-_, _/_, _%_, _≤_, _<_}
 use native.Mathlib.Nat.{zero-add}
 use native.Mathlib.Omega.{arith}
 use borrow.Author.Tests.{eqb-true, leb-true, not-false}
@@ -11,7 +11,7 @@ use mir.Syntax.{w8}
 use mir.Val.{Fits}
 use lib.Dec.{leb, eqb}
 use lib.ListN.{length, take, drop, length-append, length-take, length-drop}
-use lib.Seq.{sets, length-sets}
+use lib.Seq.{sets}
 use Rattle.base.specs.Choice.{both}
 use Rattle.base.specs.Buffers.{front}
 use Rattle.base.proofs.Tests.{both-out}
@@ -20,11 +20,11 @@ use Rattle.table.specs.declared.labels.Register.{Register}
 use Rattle.modbus.specs.Words.{wordBytes}
 use Rattle.modbus.specs.Request.{between}
 use Rattle.master.specs.declared.Sent.{Sent}
-use Rattle.master.specs.declared.Sent.the-variants.{Written, CannotBeSaid, ShortBuffer}
+use Rattle.master.specs.declared.Sent.the-variants.{Written, ShortBuffer}
 use Rattle.master.specs.Sent.{sentOf, bytesSent}
 use Rattle.master.proofs.Sends.{short-sent, short-lent, written-sent, written-lent, copied-front}
 use Rattle.master_request.specs.declared.Ask.{Ask}
-use Rattle.master_request.specs.Ask.{readSayable, manySayable, headOf, manyUnit, sayable, requestUnit}
+use Rattle.master_request.specs.Ask.{manySayable, headOf, manyUnit, sayable, requestUnit}
 
 -- ---- the arm of the case k: what was sent of k was sent of what is asked
 pub ask-sent : (a : ℕ) (ask k : Ask) (s : List ℕ) (n : ℕ) (r : Sent) → ask ≡ k → r ≡ sentOf (sayable a k s) (a ∷ requestUnit k s) n

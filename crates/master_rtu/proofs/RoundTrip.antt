@@ -1,11 +1,11 @@
 -- "What the master side writes is read by the card as that same request, and each reply is read back as what was answered", and nothing else is read as a
 -- reply. Assumes nothing.
-use mathlib.Core.Path.{_≡_, refl, sym, ap, ap₂, _∙_}
-use mathlib.Core.Bool.{Bool, true, false}
-use mathlib.Core.List.{List, [], _∷_, _++_}
-use Prim.Native.Nat.{ℕ, _+_, _-_, _*_, _/_, _%_, _≤_}
+use mathlib.Core.Path.{_≡_, ap, _∙_}
+use mathlib.Core.Bool.{true}
+use mathlib.Core.List.{List, _∷_}
+use Prim.Native.Nat.{ℕ, _+_, _-_, _*_, _/_, _≤_}
 use native.Mathlib.Omega.{arith}
-use lib.ListN.{length, take, drop, length-append}
+use lib.ListN.{length}
 use lib.Seq.{take-at}
 use Rattle.base.specs.Bytes.{Bytes}
 use Rattle.base.proofs.Tests.{pick-both}
@@ -15,7 +15,6 @@ use Rattle.checks.proofs.Laws.{body-below}
 use Rattle.modbus.specs.Words.{wordBytes}
 use Rattle.modbus.specs.Request.{requestOf}
 use Rattle.modbus.specs.Answer.{unitOf}
-use Rattle.modbus.specs.declared.requests.Request.{Request}
 use Rattle.modbus.specs.declared.answers.Answer.{Answer}
 use Rattle.modbus.proofs.Units.{unit-short}
 use Rattle.rtu.specs.Rtu.{frameHolds, addressIn, unitIn, rtuOf, partOf, dataOf, registerSpan, registerData}
@@ -30,7 +29,9 @@ use Rattle.master_reply.specs.declared.Heard.{Heard}
 use Rattle.master_reply.specs.declared.Reply.{Reply}
 use Rattle.master_reply.specs.Reply.{replyNumber, registersOf, heard, heardOf}
 use Rattle.master_reply.specs.Told.{addressOf, replyUnit, Within, IsReply, IsMessage, replyTo, wordsTold, IsAnswer}
-use Rattle.master_reply.proofs.Answered.{answer-heard, answer-some, reply-heard, reply-some, reply-most, heard-only}
+use Rattle.master_reply.proofs.Answered.{answer-heard, reply-heard}
+use Rattle.master_reply.proofs.Only.{heard-only}
+use Rattle.master_reply.proofs.Sizes.{answer-some, reply-some, reply-most}
 use Rattle.master_rtu.specs.Heard.{rtuHeard}
 
 -- ---- the card reads what was asked
