@@ -1,0 +1,7 @@
+pub mod Words
+pub mod Asked
+pub mod Bytes
+pub mod Heard
+pub mod Answered
+pub mod Tested
+pub mod Cases

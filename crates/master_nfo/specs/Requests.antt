@@ -1,0 +1,26 @@
+-- What the master asks: ENQUIRY and SELECT, and to whom it can. Assumes nothing.
+use mathlib.Core.Bool.{Bool, not}
+use mathlib.Core.List.{List, [], _∷_, _++_}
+use Prim.Native.Nat.{ℕ, _+_}
+use lib.Dec.{eqb, leb}
+use Rattle.base.specs.Choice.{both}
+use Rattle.checks.specs.Bcc.{bccOf}
+use Rattle.nfo.specs.Replies.{digitsOf, bodyOf}
+
+-- "13 (addresses above 95 .., a broadcast read ..)", and "95 is broadcast"
+unfoldable pub enquirable : ℕ → Bool
+enquirable address = both (leb address 95) (not (eqb address 95))
+
+unfoldable pub selectable : ℕ → Bool
+selectable address = leb address 95
+
+-- "ADR is address + 32". "A parameter is `E` and four hex digits." "BCC is the exclusive-or of all from after 02 up to and with 03."
+-- ENQUIRY, 8 bytes (S2):  04 ADR p p p p p 05
+-- place:                  0  1   2       6 7
+unfoldable pub enquiryOf : ℕ → ℕ → List ℕ
+enquiryOf address e = 0x04 ∷ (address + 32) ∷ 0x45 ∷ digitsOf e ++ (0x05 ∷ [])
+
+-- SELECT, 15 bytes (S2):  04 ADR 02 p p p p p 3D v v v v 03 BCC
+-- place:                  0  1   2  3       7 8  9    12 13 14
+unfoldable pub selectOf : ℕ → ℕ → ℕ → List ℕ
+selectOf address e word = 0x04 ∷ (address + 32) ∷ 0x02 ∷ bodyOf e word ++ (bccOf (bodyOf e word) ∷ [])
