@@ -8,16 +8,12 @@ import subprocess
 import sys
 
 # Commands that the program does not know yet. Each has exactly one answer line, for which the program prints `?`.
-LEFT_OUT = {"enq", "sel", "read", "one", "many", "nreply", "mreply", "regdata"}
+LEFT_OUT = {"enq", "sel", "read", "one", "many", "nreply", "mreply"}
 
 
 def is_answer(command, line):
     """Whether the line can answer this command, one of those left out. No answer of the card can: it has one, two, four or 35 words."""
     name, *words = command.split(" ")
-    if name == "regdata":
-        # a part of the frame, which the command names itself
-        part = re.fullmatch("([0-9]+) ([0-9A-F]+)", line)
-        return line == "-" or part is not None and words[0][2 * int(part[1]):].startswith(part[2])
     if name in ("nreply", "mreply"):
         return line == "14" or re.fullmatch("0 [A-Z] .+", line) is not None
     size = int(words[0] if name in ("enq", "sel") else words[1])

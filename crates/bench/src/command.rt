@@ -7,7 +7,7 @@ use card::Protocol;
 // The bytes of a HEX, with room for all that a line can hold.
 pub type Bytes = [u8; 1350];
 
-// A command of the card's table. `Bytes` and `Call` tell how many bytes HEX spells, `Call` the buffer's size before that.
+// A command. `Bytes`, `Call` and `RegisterData` tell how many bytes HEX spells, `Call` the buffer's size before that.
 pub enum Command {
     Start(Protocol),
     Restart,
@@ -15,6 +15,7 @@ pub enum Command {
     Call(usize, usize),
     Host(Event),
     State,
+    RegisterData(usize),
     NotACommand,
 }
 
@@ -73,6 +74,12 @@ fn start(protocol: &[u8]) -> Command {
     if check::same(protocol, b"nfo") {
         return Command::Start(Protocol::Nfo);
     }
+    if check::same(protocol, b"rtu") {
+        return Command::Start(Protocol::Rtu);
+    }
+    if check::same(protocol, b"ascii") {
+        return Command::Start(Protocol::Ascii);
+    }
     Command::NotACommand
 }
 
@@ -120,13 +127,29 @@ fn counted(name: &[u8], number: &[u8]) -> Command {
     Command::NotACommand
 }
 
+// `bytes HEX`
+fn scrap(word: &[u8], bytes: &mut Bytes) -> Command {
+    let Spelling::Bytes(n) = spelt(word, bytes) else {
+        return Command::NotACommand;
+    };
+    Command::Bytes(n)
+}
+
+// `regdata HEX`
+fn register_data(word: &[u8], bytes: &mut Bytes) -> Command {
+    let Spelling::Bytes(n) = spelt(word, bytes) else {
+        return Command::NotACommand;
+    };
+    Command::RegisterData(n)
+}
+
 // A name with one word after it.
 fn with_one(name: &[u8], word: &[u8], bytes: &mut Bytes) -> Command {
     if check::same(name, b"bytes") {
-        let Spelling::Bytes(n) = spelt(word, bytes) else {
-            return Command::NotACommand;
-        };
-        return Command::Bytes(n);
+        return scrap(word, bytes);
+    }
+    if check::same(name, b"regdata") {
+        return register_data(word, bytes);
     }
     if check::same(name, b"start") {
         return start(word);

@@ -45,7 +45,7 @@ struct Given {
 // One call of `bytes HEX`, with its answer where a message was taken.
 fn give(out: &mut Out, card: Card, scrap: &[u8]) -> Given {
     let mut buffer = [0u8; 600];
-    let turn = card.receive_nfo(scrap, &mut buffer);
+    let turn = receive::receive(card, scrap, &mut buffer);
     let result = turn.outcome;
     let number = result.number();
     if number != 15 {
@@ -92,7 +92,7 @@ fn call_line(out: &mut Out, number: u32, used: usize, len: usize, buffer: &[u8])
 
 // One call with a buffer of the size asked.
 fn called(out: &mut Out, card: Card, scrap: &[u8], buffer: &mut [u8]) -> Card {
-    let turn = card.receive_nfo(scrap, buffer);
+    let turn = receive::receive(card, scrap, buffer);
     let result = turn.outcome;
     call_line(out, result.number(), turn.used, turn.len, buffer);
     let next = turn.card;
@@ -107,6 +107,21 @@ fn call(out: &mut Out, card: Card, size: usize, scrap: &[u8]) -> Card {
     }
     unknown(out);
     card
+}
+
+// `regdata HEX`: `OFFSET HEX`, or `-`. Behind the register data of a frame there is its CRC alone.
+fn register_data(out: &mut Out, frame: &[u8]) {
+    let data = rtu::register_data(frame);
+    let behind = data.len() + 2;
+    if data.len() == 0 || frame.len() < behind {
+        let n = output::put(out, 0, b'-');
+        output::end(out, n);
+        return;
+    }
+    let mut n = output::unsigned(out, 0, (frame.len() - behind) as u64);
+    n = output::put(out, n, b' ');
+    n = output::hex(out, n, data);
+    output::end(out, n);
 }
 
 // `state`
@@ -178,6 +193,10 @@ fn perform(out: &mut Out, card: Card, command: Command, buffer: &Bytes) -> Card 
         Command::Host(event) => host(out, card, event),
         Command::State => {
             state(out, card);
+            card
+        }
+        Command::RegisterData(n) => {
+            register_data(out, first(buffer, n));
             card
         }
         Command::NotACommand => {

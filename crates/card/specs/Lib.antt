@@ -1,4 +1,3 @@
 pub mod State
 pub mod Outcome
 pub mod Events
-pub mod Receive

@@ -2,29 +2,44 @@
 use mathlib.Core.Path.{_≡_, refl}
 use mathlib.Core.List.{map}
 use Rattle.table.specs.Table.{rows, lineAt, startWords}
-use Rattle.table.specs.Find.{firstRow, rowOfE}
+use Rattle.table.specs.Address.{address, firstRegister, registerOf}
+use Rattle.table.specs.Find.{firstRow, rowFrom, rowOfE, rowOfSpan}
 use Rattle.table.specs.Allowed.{twos, numberOf, within, member, belowLimt, aboveMagn, atMode, setpointAllows, allows, allowedAt}
-use Rattle.hex.specs.Hex.{isHex, digitValue, digitOf, pairValue, hexOf}
+use Rattle.hex.specs.Hex.{isHex, allHex, digitValue, digitOf, pairValue, hexOf, bytesOf}
 use Rattle.checks.specs.Bcc.{bccOf}
-use Rattle.drive.specs.Plant as Drive
-use Rattle.drive.specs.Faults.{active, flagStands, runs, statusOf, only14, stopped}
-use Rattle.drive.specs.Read.{wordAt, told}
-use Rattle.drive.specs.Refusals.{readOnly, boundsOf, allowed, held, permitted}
-use Rattle.drive.specs.Write.{permitOf, stored, applied, written}
-use Rattle.pending.specs.Held.{empty, emptied, pushed, restarted}
+use Rattle.checks.specs.Lrc.{addsToZero, lrcOf, sumOf, totalOf}
+use Rattle.drive.specs.Plant as Plant
+use Rattle.drive.specs.Flags as Flags
+use Rattle.drive.specs.Faults as Faults
+use Rattle.drive.specs.Events as Plants
+use Rattle.drive.specs.Read as Read
+use Rattle.drive.specs.Refusals as Refusals
+use Rattle.drive.specs.Write as Write
+use Rattle.service.specs.Serving.{toldServed, wroteServed}
+use Rattle.pending.specs.Held as Held
 use Rattle.pending.specs.Scanning.{scanFrom}
 use Rattle.nfo.specs.Message.{enquiry, select, bccIn}
-use Rattle.nfo.specs.Scan.{fitsAt, stepIn, stepOf, again, ends, fed}
+use Rattle.nfo.specs.Scan as Nfo
 use Rattle.nfo.specs.Parts.{valueAt, parameterAt, messageOf}
 use Rattle.nfo.specs.Replies.{digitsOf, bodyOf, replyOf, ackOf, nakOf}
-use Rattle.service.specs.Serving.{toldServed, wroteServed}
-use Rattle.nfo_service.specs.Serve.{toUs, reachesUs, rowNamed, enquiryServed, stops, rowSelected, selectServed, served}
-use Rattle.nfo_service.specs.Reply.{repliedBy, replied}
-use Rattle.card.specs.declared.state.Protocol.the-variants.{Nfo}
+use Rattle.nfo_service.specs.Serve as Serve
+use Rattle.nfo_service.specs.Reply as Reply
+use Rattle.modbus.specs.Words.{wordAt, wordBytes, longBytes}
+use Rattle.modbus.specs.Request.{asked, reads, requestOf}
+use Rattle.modbus.specs.Answer.{unitOf}
+use Rattle.modbus_service.specs.Serve as Modbus
+use Rattle.modbus_service.specs.Reply as Answers
+use Rattle.ascii.specs.Ascii.{textOf, bytesIn, counted, right, asciiOf}
+use Rattle.ascii_scan.specs.Scan as Ascii
+use Rattle.ascii_scan.specs.Parts.{unitAmong}
 use Rattle.card.specs.State.{started}
-use Rattle.card.specs.Receive.{taken, waiting, received}
-use Rattle.demands.specs.Cases.{said, Case, cases}
+use Rattle.card.specs.Events.{happened, told, faultRaised, causeEnded}
+use Rattle.turn.specs.Turn.{waiting, cardAfter}
+use Rattle.nfo_port.specs.Receive.{nfoReceived}
+use Rattle.ascii_port.specs.Receive.{asciiReceived}
+use Rattle.receive.specs.Receive.{received}
+use Rattle.demands.specs.Cases.{heard, Case, cases}
 
-pub cases-hold : map (λ (k : Case). said 3 (started Nfo) (k .bytes)) cases ≡ map (λ (k : Case). k .right) cases
-unfolding cases rows lineAt startWords firstRow rowOfE twos numberOf within member belowLimt aboveMagn atMode setpointAllows allows allowedAt isHex digitValue digitOf pairValue hexOf bccOf Drive.started active flagStands runs statusOf only14 stopped wordAt told readOnly boundsOf allowed held permitted permitOf stored applied written empty emptied pushed restarted scanFrom bccIn fitsAt stepIn stepOf again ends fed valueAt parameterAt messageOf digitsOf bodyOf replyOf ackOf nakOf toUs reachesUs rowNamed toldServed wroteServed enquiryServed stops rowSelected selectServed served repliedBy replied started taken waiting received enquiry select
+pub cases-hold : map (λ (k : Case). heard 3 (k .card) (k .bytes)) cases ≡ map (λ (k : Case). k .right) cases
+unfolding cases rows lineAt startWords address firstRegister registerOf firstRow rowFrom rowOfE rowOfSpan twos numberOf within member belowLimt aboveMagn atMode setpointAllows allows allowedAt isHex allHex digitValue digitOf pairValue hexOf bytesOf bccOf addsToZero lrcOf sumOf totalOf Plant.started Flags.flagged Flags.lowestFrom Flags.lowestOf Faults.active Faults.flagStands Faults.flagRaised Faults.runs Faults.statusOf Faults.only14 Faults.stopped Plants.isFault Plants.raised Plants.ended Read.wordAt Read.told Refusals.readOnly Refusals.boundsOf Refusals.allowed Refusals.held Refusals.permitted Write.permitOf Write.stored Write.applied Write.written toldServed wroteServed Held.held Held.empty Held.emptied Held.pushed Held.restarted scanFrom enquiry select bccIn Nfo.fitsAt Nfo.stepIn Nfo.stepOf Nfo.again Nfo.ends Nfo.fed valueAt parameterAt messageOf digitsOf bodyOf replyOf ackOf nakOf Serve.toUs Serve.reachesUs Serve.rowNamed Serve.enquiryServed Serve.stops Serve.rowSelected Serve.selectServed Serve.served Reply.repliedBy Reply.replied wordAt wordBytes longBytes asked reads requestOf unitOf Modbus.reachesUs Modbus.taskOf Modbus.done Modbus.served Answers.registersTold Answers.repliedBy Answers.replied Answers.exchanged textOf bytesIn counted right asciiOf Ascii.again Ascii.crFits Ascii.digitFits Ascii.ended Ascii.ends Ascii.fed Ascii.goesOn unitAmong started happened told faultRaised causeEnded waiting cardAfter nfoReceived asciiReceived received
 cases-hold = refl

@@ -1,70 +1,103 @@
--- Demand 3 holds of NFO serial: the calls of `Card::receive_nfo` come to the course of the stream, byte by byte, and that course is the reading. Assumes nothing.
-use mathlib.Core.Path.{_≡_, refl, sym, ap, _∙_}
+-- Demand 3 holds: the calls of `receive` come to the course of the stream, byte by byte, and that course is the reading. Assumes nothing.
+use mathlib.Core.Path.{_≡_, refl, sym, _∙_}
 use mathlib.Core.Bool.{true}
 use mathlib.Core.List.{List, []}
-use Prim.Native.Nat.{ℕ, _≤_}
-use borrow.Author.Tests.{le-ltb}
+use Prim.Native.Nat.{ℕ}
+use native.Mathlib.Omega.{arith}
+use Rattle.stream.specs.Format.{Lawful}
 use Rattle.stream.specs.Reading.{Yield, Reads}
 use Rattle.stream.specs.Automaton.{feedAll}
 use Rattle.stream.specs.Scanned.{messagesOf}
+use Rattle.stream.specs.Theorem.{StreamTheorem}
 use Rattle.stream.proofs.Reading.{empty-viable}
 use Rattle.pending.specs.declared.Pending.{Pending}
 use Rattle.pending.specs.Held.{held, Sized}
-use Rattle.pending.proofs.Laws.{held-emptied, sized-emptied}
-use Rattle.nfo.specs.Message.{nfo, formed}
-use Rattle.nfo.specs.Parts.{messageOf}
-use Rattle.nfo.specs.Scan.{feeding}
+use Rattle.pending.specs.Scanning.{Follows}
 use Rattle.nfo.proofs.Lawful.{nfo-lawful, nfo-stream}
 use Rattle.nfo.proofs.Follows.{nfo-follows}
-use Rattle.nfo.proofs.Parsed.{message-held}
+use Rattle.nfo.proofs.Parsed as Parsed
+use Rattle.ascii.proofs.Lawful.{ascii-lawful, ascii-stream}
+use Rattle.ascii_scan.proofs.Follows.{ascii-follows}
+use Rattle.ascii_scan.proofs.Parsed.{message-held}
 use Rattle.card.specs.declared.state.Card.{Card}
-use Rattle.card.specs.Receive.{Received, taken, received}
-use Rattle.demands.specs.Calls.{Course, Calls, servedAll}
-use Rattle.demands.specs.Demand3.{nfoServed, nfoSerial, NothingPending, besides, Same, Demand3}
-use Rattle.demands.proofs.Course.{pendingOn, course, scanOf, calls-course, some-calls, Alike, Agree, reads}
+use Rattle.turn.specs.Stream.{Stream, streamed}
+use Rattle.nfo_port.specs.Receive.{nfoStream, nfoReceived}
+use Rattle.ascii_port.specs.Receive.{asciiStream, asciiReceived}
+use Rattle.receive.specs.Receive.{received}
+use Rattle.receive.proofs.Laws.{by-nfo, by-ascii}
+use Rattle.demands.specs.Calls.{Protocol, Course, Calls, Speaks, servedAll}
+use Rattle.demands.specs.Demand3.{nfoSerial, modbusAscii, NothingPending, besides, Same, Demand3}
+use Rattle.demands.proofs.Course.{pendingOn, course, calls-course, some-calls}
+use Rattle.demands.proofs.Reading.{Alike, reads}
 
--- what the card makes of a message that its array holds
-abbrev one : Card → Pending → Received
-one c q = taken c (record { pending = q; used = 0; taken = true })
+-- what makes a protocol one that comes as a stream
+pub record Streams (P : Protocol) (S : Stream) : Type 0 where
+  pub lawful : Lawful (P .format)
+  pub theory : StreamTheorem (P .format)
+  pub follows : Follows (P .format) (S .feeding)
+  pub calls : (c : Card) (x : List ℕ) (room : ℕ) → Speaks P c → received c x room ≡ streamed S c x room
+  -- a message that is held is served as its bytes are
+  pub takes : (c : Card) (q : Pending) → Sized q → P .format .formed (S .feeding .message q) ≡ true
+      → (S .served c q ≡ P .served c (S .feeding .message q)) × (S .reply c q ≡ P .reply c (S .feeding .message q))
+  -- and by what the card holds besides the bytes pending
+  pub same : (c : Card) (q r : Pending) → (S .served (pendingOn q c) r ≡ S .served c r) × (S .reply (pendingOn q c) r ≡ S .reply c r)
+  pub alone : (c : Card) (m : List ℕ) → (P .served c m ≡ P .served (besides c) m) × (P .reply c m ≡ P .reply (besides c) m)
 
-same : (c : Card) (q r : Pending) → one (pendingOn q c) r ≡ one c r
-unfolding taken
-same c q r = refl
+module _ (P : Protocol) (S : Stream) (H : Streams P S) where
+  of-calls : (c : Card) (s : List ℕ) (k : Course) → Speaks P c → Calls c s k → k ≡ course S c s
+  of-calls c s k p = calls-course S (H .same) P (H .calls) p
 
-calls : (c : Card) (x : List ℕ) (room : ℕ) → 19 ≤ room → received c x room ≡ scanOf feeding one c x
-unfolding received taken
-calls c x room h = simp (le-ltb room 19 h)
+  reading : (c : Card) → Speaks P c → NothingPending c → (s : List ℕ) (k : Course) → Calls c s k → (y : Yield) → Reads (P .format) 0 s y → Same P c k y
+  reading c p (none, size) s k l y r =
+      let z : y ≡ feedAll (P .format) 0 [] s = H .theory .one-result 0 s y (feedAll (P .format) 0 [] s) r (H .theory .automaton-reads s) in
+      let n : k ≡ course S c s = of-calls c s k p l in
+      let a : Alike (course S c s) (servedAll P c (messagesOf (feedAll (P .format) 0 [] s .taken))) (feedAll (P .format) 0 [] s .pending) =
+      reads P S (H .lawful) (H .follows) (H .takes) (H .alone) s 0 [] c c none size (empty-viable (P .format) (H .lawful)) refl in
+      rw (n, z) (record { outcomes = a .outcomes; replies = a .replies; state = a .state; pending = a .pending })
 
-takes : (c : Card) (q : Pending) → Sized q → formed (held q) ≡ true → Agree (one c q) (nfoServed c (held q))
-unfolding taken
-takes c q size w = let m : messageOf (q .bytes) ≡ messageOf (held q) = message-held q w in rw m (record { outcome = refl; reply = refl; state = refl })
+  pub streams-demand : Demand3 P
+  streams-demand =
+      record {
+        reading = reading;
+        any-cut = λ c p s k l a b. of-calls c s k p a ∙ sym (of-calls c s l p b);
+        some-calls = λ c p s. some-calls S (H .same) P (H .calls) s c p;
+        theory = H .theory;
+      }
 
-clears : (c : Card) (q : Pending) → Sized q → (held (one c q .card .port .pending) ≡ []) × Sized (one c q .card .port .pending)
-unfolding taken
-clears c q size = (held-emptied q, sized-emptied q size)
+-- ---- NFO serial
+nfo-calls : (c : Card) (x : List ℕ) (room : ℕ) → Speaks nfoSerial c → received c x room ≡ streamed nfoStream c x room
+unfolding nfoReceived
+nfo-calls c x room p = by-nfo c x room (λ q. omega (arith, p, q)) (λ q. omega (arith, p, q))
 
--- a message is served by what the card holds besides the bytes pending
-fair : (c d : Card) (m : List ℕ) → besides c ≡ besides d → Agree (nfoServed c m) (nfoServed d m)
-fair c d m e =
+nfo-streams : Streams nfoSerial nfoStream
+nfo-streams =
     record {
-      outcome = ap (λ (k : Card). nfoServed k m .outcome) e;
-      reply = ap (λ (k : Card). nfoServed k m .reply) e;
-      state = ap (λ (k : Card). besides (nfoServed k m .card)) e;
-    }
-
-reading : (c : Card) → NothingPending c → (s : List ℕ) (k : Course) → Calls nfoSerial c s k → (y : Yield) → Reads nfo 0 s y → Same nfoSerial c k y
-reading c (none, size) s k l y r =
-    let z : y ≡ feedAll nfo 0 [] s = nfo-stream .one-result 0 s y (feedAll nfo 0 [] s) r (nfo-stream .automaton-reads s) in
-    let n : k ≡ course feeding one c s = calls-course feeding one same nfoSerial calls l in
-    let a : Alike (course feeding one c s) (servedAll nfoSerial c (messagesOf (feedAll nfo 0 [] s .taken))) (feedAll nfo 0 [] s .pending) =
-    reads nfoSerial nfo-lawful feeding nfo-follows one takes clears fair s 0 [] c c none size (empty-viable nfo nfo-lawful) refl in
-    rw (n, z) (record { outcomes = a .outcomes; replies = a .replies; state = a .state; pending = a .pending })
-
-pub demand-3-nfo : Demand3 nfoSerial
-demand-3-nfo =
-    record {
-      reading = reading;
-      any-cut = λ c s k l a b. calls-course feeding one same nfoSerial calls a ∙ sym (calls-course feeding one same nfoSerial calls b);
-      some-calls = λ c s. some-calls feeding one same nfoSerial calls s c;
+      lawful = nfo-lawful;
       theory = nfo-stream;
+      follows = nfo-follows;
+      calls = nfo-calls;
+      takes = λ c q size w. rw (Parsed.message-held q w) (refl, refl);
+      same = λ c q r. (refl, refl);
+      alone = λ c m. (refl, refl);
     }
+
+-- ---- Modbus ASCII
+ascii-calls : (c : Card) (x : List ℕ) (room : ℕ) → Speaks modbusAscii c → received c x room ≡ streamed asciiStream c x room
+unfolding asciiReceived
+ascii-calls c x room p = by-ascii c x room p
+
+ascii-streams : Streams modbusAscii asciiStream
+ascii-streams =
+    record {
+      lawful = ascii-lawful;
+      theory = ascii-stream;
+      follows = ascii-follows;
+      calls = ascii-calls;
+      takes = λ c q size w. rw (message-held q w) (refl, refl);
+      same = λ c q r. (refl, refl);
+      alone = λ c m. (refl, refl);
+    }
+
+-- ---- DEMAND 3, of both
+pub demand-3 : Demand3 nfoSerial × Demand3 modbusAscii
+demand-3 = (streams-demand nfoSerial nfoStream nfo-streams, streams-demand modbusAscii asciiStream ascii-streams)

@@ -1,19 +1,15 @@
 -- A stream on the line: the calls that a caller makes of it, and the messages of it served one after another. Assumes nothing.
+use mathlib.Core.Path.{_≡_}
 use mathlib.Core.List.{List, [], _∷_, _++_}
 use Prim.Native.Nat.{ℕ, _≤_}
 use lib.ListN.{drop}
 use Rattle.stream.specs.Format.{Format}
+use Rattle.service.specs.declared.Served.{Served}
 use Rattle.card.specs.declared.state.Card.{Card}
 use Rattle.card.specs.declared.outcome.Outcome.{Outcome}
-use Rattle.card.specs.declared.outcome.Outcome.the-variants.{Done, Served, ShortBuffer, BadFrame, NoSuchEvent, NothingTaken}
-use Rattle.card.specs.Receive.{Received}
-
--- a protocol that comes as a stream: its format; what a call of the card hands back, by the bytes and the length of the reply buffer; and what
--- the card makes of one message
-pub record Protocol : Type 0 where
-  pub format : Format
-  pub received : Card → List ℕ → ℕ → Received
-  pub served : Card → List ℕ → Received
+use Rattle.card.specs.declared.outcome.Outcome.the-variants as Outcomes
+use Rattle.turn.specs.Turn.{Received, answered}
+use Rattle.receive.specs.Receive.{received}
 
 -- what came of a stream: the outcomes of the messages taken, the joined replies, and the card at the end
 pub record Course : Type 0 where
@@ -23,12 +19,12 @@ pub record Course : Type 0 where
 
 -- the outcome of a message, where one was taken
 abbrev pub outcomeOf : Outcome → List Outcome
-outcomeOf Done = []
-outcomeOf (Served answer) = Served answer ∷ []
-outcomeOf ShortBuffer = []
-outcomeOf BadFrame = []
-outcomeOf NoSuchEvent = []
-outcomeOf NothingTaken = []
+outcomeOf Outcomes.Done = []
+outcomeOf (Outcomes.Served answer) = Outcomes.Served answer ∷ []
+outcomeOf Outcomes.ShortBuffer = []
+outcomeOf Outcomes.BadFrame = []
+outcomeOf Outcomes.NoSuchEvent = []
+outcomeOf Outcomes.NothingTaken = []
 
 -- what one call adds in front
 abbrev pub adding : Received → Course → Course
@@ -38,15 +34,30 @@ adding r k = record { outcomes = outcomeOf (r .outcome) ++ k .outcomes; replies 
 abbrev pub ended : Card → Course
 ended c = record { outcomes = []; replies = []; card = c }
 
--- `Calls P c s k`: a caller hands the stream s to the card c in scraps, with reply buffers of 19 bytes or more, and k comes of it. "The caller gives the
+-- `Calls c s k`: a caller hands the stream s to the card c in scraps, with reply buffers of 19 bytes or more, and k comes of it. "The caller gives the
 -- unused rest again first": after a call on the scrap x, what it did not use of x comes before the bytes y that are still to come
-pub data Calls (P : Protocol) : Card → List ℕ → Course → Type 0 where
-  over : {c : Card} → Calls P c [] (ended c)
+pub data Calls : Card → List ℕ → Course → Type 0 where
+  over : {c : Card} → Calls c [] (ended c)
   call : {c : Card} (x y : List ℕ) (room : ℕ) {k : Course} → 19 ≤ room
-      → Calls P (P .received c x room .card) (drop (P .received c x room .used) x ++ y) k
-      → Calls P c (x ++ y) (adding (P .received c x room) k)
+      → Calls (received c x room .card) (drop (received c x room .used) x ++ y) k
+      → Calls c (x ++ y) (adding (received c x room) k)
+
+-- a protocol that comes as a stream: its number in the port, its format, and what a message comes to: what is served, and the reply
+pub record Protocol : Type 0 where
+  pub number : ℕ
+  pub format : Format
+  pub served : Card → List ℕ → Served
+  pub reply : Card → List ℕ → List ℕ
+
+-- the port is of this protocol
+abbrev pub Speaks : Protocol → Card → Type 0
+Speaks P c = c .port .protocol ≡ P .number
+
+-- one message of it on a card
+abbrev pub message : Protocol → Card → List ℕ → Received
+message P c m = answered c (c .port .pending) 0 (P .served c m) (P .reply c m)
 
 -- the messages served one after another
 unfoldable pub servedAll : Protocol → Card → List (List ℕ) → Course
 servedAll P c [] = ended c
-servedAll P c (m ∷ ms) = adding (P .served c m) (servedAll P (P .served c m .card) ms)
+servedAll P c (m ∷ ms) = adding (message P c m) (servedAll P (message P c m .card) ms)

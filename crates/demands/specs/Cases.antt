@@ -1,15 +1,17 @@
--- Document 01's ★ cases of NFO serial, one table, one statement: what a card answers that has just started. Assumes nothing.
+-- Document 01's ★ cases, one table, one statement: "Fresh start, address 1, unless said". Assumes nothing.
 use mathlib.Core.Path.{_≡_, refl}
 use mathlib.Core.List.{List, [], _∷_, _++_, map}
 use Prim.Native.Nat.{ℕ, zero, suc}
 use lib.ListN.{drop}
 use Rattle.card.specs.declared.state.Card.{Card}
-use Rattle.card.specs.declared.state.Protocol.the-variants.{Nfo}
+use Rattle.card.specs.declared.state.Protocol.the-variants.{Nfo, Ascii}
 use Rattle.card.specs.declared.outcome.Outcome.{Outcome}
 use Rattle.card.specs.declared.outcome.Outcome.the-variants.{Done, Served, ShortBuffer, BadFrame, NoSuchEvent, NothingTaken}
 use Rattle.card.specs.State.{started}
+use Rattle.card.specs.Events.{faultRaised, causeEnded}
 use Rattle.card.specs.Outcome.{numberOf}
-use Rattle.card.specs.Receive.{Received, received}
+use Rattle.turn.specs.Turn.{Received}
+use Rattle.receive.specs.Receive.{received}
 
 -- a message's outcome number and its reply
 pub record Said : Type 0 where
@@ -19,20 +21,27 @@ pub record Said : Type 0 where
 abbrev pub says : ℕ → List ℕ → Said
 says number reply = record { number = number; reply = reply }
 
--- what a call says, before what the later ones say; nothing, where nothing was taken
-abbrev pub saying : Outcome → List ℕ → List Said → List Said
-saying Done reply later = later
-saying (Served answer) reply later = says (numberOf (Served answer)) reply ∷ later
-saying ShortBuffer reply later = []
-saying BadFrame reply later = []
-saying NoSuchEvent reply later = []
-saying NothingTaken reply later = []
+-- what the messages of some bytes say, and the fault flags after them
+pub record Told : Type 0 where
+  pub said : List Said
+  pub flags : ℕ
 
--- so many calls at the most of `Card::receive_nfo`, with a reply buffer of 19 bytes, each on the rest that the one before left
-abbrev pub said : ℕ → Card → List ℕ → List Said
-said zero c bytes = []
-said (suc n) c bytes =
-    let r : Received = received c bytes 19 in saying (r .outcome) (r .reply) (said n (r .card) (drop (r .used) bytes))
+abbrev pub telling : List Said → ℕ → Told
+telling said flags = record { said = said; flags = flags }
+
+-- what a call says, before what the later ones say; nothing, where nothing was taken
+abbrev pub saying : Outcome → List ℕ → Told → Told
+saying Done reply later = later
+saying (Served answer) reply later = telling (says (numberOf (Served answer)) reply ∷ later .said) (later .flags)
+saying ShortBuffer reply later = later
+saying BadFrame reply later = later
+saying NoSuchEvent reply later = later
+saying NothingTaken reply later = later
+
+-- so many calls of `receive`, with a reply buffer of 19 bytes, each on the rest that the one before left
+abbrev pub heard : ℕ → Card → List ℕ → Told
+heard zero c bytes = telling [] (c .plant .flags)
+heard (suc n) c bytes = let r : Received = received c bytes 19 in saying (r .outcome) (r .reply) (heard n (r .card) (drop (r .used) bytes))
 
 -- the ENQUIRY of case 2, without the EOT that it begins with, and with it; its reply
 abbrev pub ask-rest : List ℕ
@@ -58,12 +67,33 @@ accel = 0x04 ∷ 0x21 ∷ 0x02 ∷ 0x45 ∷ 0x30 ∷ 0x30 ∷ 0x31 ∷ 0x44 ∷ 
 abbrev pub r-fix1 : List ℕ
 r-fix1 = 0x04 ∷ 0x21 ∷ 0x02 ∷ 0x45 ∷ 0x30 ∷ 0x30 ∷ 0x33 ∷ 0x39 ∷ 0x3D ∷ []
 
+-- ---- Modbus ASCII
+-- the characters of a message, `:` before and CR LF behind
+abbrev pub line : List ℕ → List ℕ
+line digits = 0x3A ∷ digits ++ (0x0D ∷ 0x0A ∷ [])
+
+-- 0103 and 0183, which begin the replies
+abbrev pub read-1 : List ℕ
+read-1 = 0x30 ∷ 0x31 ∷ 0x30 ∷ 0x33 ∷ []
+
+abbrev pub refused-1 : List ℕ
+refused-1 = 0x30 ∷ 0x31 ∷ 0x38 ∷ 0x33 ∷ []
+
+-- fault 1 was raised and its cause has ended, so that a read of 02A4h would acknowledge it
+abbrev pub faulted : Card
+faulted = causeEnded 1 (faultRaised 1 (started Ascii) .card) .card
+
+-- ---- the table: the card before, the bytes, and what they tell
 pub record Case : Type 0 where
+  pub card : Card
   pub bytes : List ℕ
-  pub right : List Said
+  pub right : Told
 
 abbrev pub case : List ℕ → List Said → Case
-case bytes right = record { bytes = bytes; right = right }
+case bytes right = record { card = started Nfo; bytes = bytes; right = telling right 0 }
+
+abbrev pub ascii : List ℕ → List Said → Case
+ascii bytes right = record { card = started Ascii; bytes = bytes; right = telling right 0 }
 
 unfoldable pub cases : List Case
 cases =
@@ -81,4 +111,16 @@ cases =
     ∷ case (accel ++ (0x30 ∷ 0x30 ∷ 0x39 ∷ 0x33 ∷ 0x03 ∷ 0x04 ∷ ask-rest)) (says 0 ack ∷ [])
     -- 6: "04 21 02 45 30 30 31 44 3D 30 30 39 34 03, then case 2: its reply only"
     ∷ case (accel ++ (0x30 ∷ 0x30 ∷ 0x39 ∷ 0x34 ∷ 0x03 ∷ ask)) (says 0 accel-50 ∷ [])
+    -- 7: "`:01030294000165`: `:0103020001F9`"
+    ∷ ascii (line (read-1 ++ (0x30 ∷ 0x32 ∷ 0x39 ∷ 0x34 ∷ 0x30 ∷ 0x30 ∷ 0x30 ∷ 0x31 ∷ 0x36 ∷ 0x35 ∷ [])))
+    (says 0 (line (read-1 ++ (0x30 ∷ 0x32 ∷ 0x30 ∷ 0x30 ∷ 0x30 ∷ 0x31 ∷ 0x46 ∷ 0x39 ∷ []))) ∷ [])
+    -- "`:0103070C0001E8`: `:0183027A`"
+    ∷ ascii (line (read-1 ++ (0x30 ∷ 0x37 ∷ 0x30 ∷ 0x43 ∷ 0x30 ∷ 0x30 ∷ 0x30 ∷ 0x31 ∷ 0x45 ∷ 0x38 ∷ [])))
+    (says 2 (line (refused-1 ++ (0x30 ∷ 0x32 ∷ 0x37 ∷ 0x41 ∷ []))) ∷ [])
+    -- "`:000302A4000156`: outcome 1, nothing acknowledged": flag 1 stands
+    ∷ record {
+      card = faulted;
+      bytes = line (0x30 ∷ 0x30 ∷ 0x30 ∷ 0x33 ∷ 0x30 ∷ 0x32 ∷ 0x41 ∷ 0x34 ∷ 0x30 ∷ 0x30 ∷ 0x30 ∷ 0x31 ∷ 0x35 ∷ 0x36 ∷ []);
+      right = telling (says 1 [] ∷ []) 2;
+    }
     ∷ []

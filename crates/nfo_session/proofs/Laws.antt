@@ -13,7 +13,6 @@ use Rattle.base.proofs.Sets.{sets-part, sets-append, sets-front, take-front, le
 use Rattle.base.proofs.Tests.{pick-both}
 use Rattle.hex.specs.Hex.{hexOf}
 use Rattle.hex.proofs.RoundTrip.{length-hex}
-use Rattle.pending.specs.declared.Scan.{Scan}
 use Rattle.pending.specs.Scanning.{scanFrom}
 use Rattle.nfo.specs.Parts.{messageOf}
 use Rattle.nfo.specs.Scan.{feeding}
@@ -22,11 +21,12 @@ use Rattle.drive.specs.declared.answer.Answer.{Answer}
 use Rattle.drive.specs.declared.answer.Answer.the-variants.{Told, Written, NotOurs, Refused}
 use Rattle.drive.specs.declared.write.Refusal.the-variants.{NoRow, ReadOnly, NotAllowed, FlagStands, Running, NotPermitted, Malformed, NoFunction}
 use Rattle.card.specs.Outcome.{numberOf}
-use Rattle.card.specs.Receive.{Received, turnOf, servedBy, taken, waiting, received}
-use Rattle.card.proofs.Receiving.{received-used, received-uses}
+use Rattle.turn.specs.Turn.{Received, turnOf, waiting}
+use Rattle.nfo_port.specs.Receive.{servedBy, nfoReceived}
+use Rattle.nfo_port.proofs.Laws.{nfo-used, nfo-uses}
 use Rattle.card.specs.declared.state.Card.{Card}
-use Rattle.card.specs.declared.receive.Turn.{Turn}
-use Rattle.nfo_session.specs.declared.turn.Served.{Served}
+use Rattle.turn.specs.declared.Turn.{Turn}
+use Rattle.nfo_session.specs.declared.call.Served.{Served}
 use Rattle.nfo_session.specs.Line.{shown, lineText, lineOf, turned}
 
 -- ---- the text of a line
@@ -95,15 +95,12 @@ below-10 (Refused NotPermitted) = omega arith
 below-10 (Refused Malformed) = omega arith
 below-10 (Refused NoFunction) = omega arith
 
-taken-below-10 : (c : Card) (scan : Scan) → numberOf (taken c scan .outcome) < 10
-unfolding taken
-taken-below-10 c scan = below-10 (servedBy c (messageOf (scan .pending .bytes)) .answer)
-
-pub one-numeral : (c : Card) (bytes : List ℕ) (room : ℕ) → 19 ≤ room → (numberOf (received c bytes room .outcome) ≡ 15) ⊎ (numberOf (received c bytes room .outcome) < 10)
-unfolding received waiting
+pub one-numeral : (c : Card) (bytes : List ℕ) (room : ℕ) → 19 ≤ room → (numberOf (nfoReceived c bytes room .outcome) ≡ 15) ⊎ (numberOf (nfoReceived c bytes room .outcome) < 10)
+unfolding nfoReceived waiting
 one-numeral c bytes room h =
     simp (le-ltb room 19 h)
-    (pick-both (λ (r : Received). (numberOf (r .outcome) ≡ 15) ⊎ (numberOf (r .outcome) < 10)) (scanFrom feeding (c .port .pending) 0 bytes .taken) (λ k. inr (taken-below-10 c (scanFrom feeding (c .port .pending) 0 bytes))) (λ k. inl refl))
+    (pick-both (λ (r : Received). (numberOf (r .outcome) ≡ 15) ⊎ (numberOf (r .outcome) < 10)) (scanFrom feeding (c .port .pending) 0 bytes .taken)
+    (λ k. inr (below-10 (servedBy c (messageOf (scanFrom feeding (c .port .pending) 0 bytes .pending .bytes)) .answer))) (λ k. inl refl))
 
 -- ---- a call, by what the card promised of it: r is what it names
 module _ (r : Received) (t : Turn) (number : ℕ) (before after : List ℕ) (short : length (r .reply) ≤ 14) (room : length before ≡ 64)
@@ -143,18 +140,18 @@ module _ (r : Received) (t : Turn) (number : ℕ) (before after : List ℕ) (sho
       rw (turns .0, count) (refl, lent)
 
 -- ---- the loop over a scrap: a call uses bytes that are there, and one at least
-module _ (c : Card) (scrap : List ℕ) (at : ℕ) (t : Served) (more : at < length scrap) (turns : t ≡ turned (received c (take (length scrap - at) (drop at scrap)) 64)) where
+module _ (c : Card) (scrap : List ℕ) (at : ℕ) (t : Served) (more : at < length scrap) (turns : t ≡ turned (nfoReceived c (take (length scrap - at) (drop at scrap)) 64)) where
   abbrev rest : List ℕ
   rest = take (length scrap - at) (drop at scrap)
 
   rest-length : length rest ≡ length scrap - at
   rest-length = simp (length-take, length-drop) (omega arith)
 
-  same-used : t .used ≡ received c rest 64 .used
+  same-used : t .used ≡ nfoReceived c rest 64 .used
   same-used = ap (λ (x : Served). x .used) turns
 
   pub used-within : at + t .used ≤ length scrap
-  used-within = omega (arith, rest-length, same-used, received-used c rest 64)
+  used-within = omega (arith, rest-length, same-used, nfo-used c rest 64)
 
   pub used-less : length scrap - (at + t .used) < length scrap - at
-  used-less = omega (arith, used-within, same-used, received-uses c rest 64 (omega arith) (omega (arith, rest-length)))
+  used-less = omega (arith, used-within, same-used, nfo-uses c rest 64 (omega arith) (omega (arith, rest-length)))

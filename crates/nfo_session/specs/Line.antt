@@ -6,8 +6,8 @@ use lib.ListN.{length}
 use Rattle.base.specs.Choice.{pick}
 use Rattle.hex.specs.Hex.{hexOf}
 use Rattle.card.specs.Outcome.{numberOf}
-use Rattle.card.specs.Receive.{Received}
-use Rattle.nfo_session.specs.declared.turn.Served.{Served}
+use Rattle.turn.specs.Turn.{Received}
+use Rattle.nfo_session.specs.declared.call.Served.{Served}
 
 -- "reply in hex or `-`"
 abbrev pub shown : List ℕ → List ℕ

@@ -1,8 +1,8 @@
 // The session of document 01's case 9: NFO serial on standard input, a line on standard output for each message taken.
 //
 // No contract can say what is read and written. All between the two is in `serve`: the card after a call, and the text of its line.
+mod call;
 mod line;
-mod turn;
 
 use card::Card;
 use card::Protocol;
@@ -54,7 +54,7 @@ fn serve_all(card: Card, scrap: &[u8]) -> Card {
     let mut at: usize = 0;
     while at < scrap.len() {
         let mut text = [0u8; 64];
-        let t = turn::serve(c, &scrap[at..], &mut text);
+        let t = call::serve(c, &scrap[at..], &mut text);
         write(&text, t.len);
         at += t.used;
         let next = t.card;

@@ -1,17 +1,19 @@
 -- What was read and what was written, as what serving comes to. Assumes nothing.
-use mathlib.Core.Path.{_≡_, ap}
+use mathlib.Core.Path.{_≡_, refl, ap}
 use Prim.Native.Nat.{ℕ}
 use Rattle.table.specs.declared.labels.Row.{Row}
 use Rattle.drive.specs.declared.plant.Plant.{Plant}
 use Rattle.drive.specs.declared.read.Told.{Told}
 use Rattle.drive.specs.declared.answer.Answer.the-variants as Answers
 use Rattle.drive.specs.declared.write.Refusal.{Refusal}
+use Rattle.drive.specs.declared.write.Permit.{Permit}
 use Rattle.drive.specs.declared.write.Permit.the-variants.{Write, Refused}
 use Rattle.drive.specs.declared.write.Change.{Change}
 use Rattle.drive.specs.declared.write.Wrote.{Wrote}
+use Rattle.drive.specs.Answer.{answerNumber}
 use Rattle.drive.specs.Read.{told}
-use Rattle.drive.specs.Write.{written}
-use Rattle.service.specs.Serving.{telling, toldServed, wroteServed}
+use Rattle.drive.specs.Write.{permitOf, after, written}
+use Rattle.service.specs.Serving.{keeping, telling, toldServed, permitted, wroteServed}
 use Rattle.service.specs.declared.Served.{Served}
 
 -- a read
@@ -28,3 +30,12 @@ module _ (p : Plant) (s row w : ℕ) (x : Wrote) (e : x ≡ written p row w) whe
   pub wrote-refused : (refusal : Refusal) → x .permit ≡ Refused refusal → _≡_ {A = Served} (record { plant = x .plant; sioerr = s; answer = Answers.Refused refusal }) (wroteServed p s row w)
   unfolding wroteServed
   wrote-refused refusal h = simp (← e, h)
+
+-- a write of an outcome other than 0 changes nothing
+pub wrote-keeps : (p : Plant) (s row w : ℕ) → (answerNumber (wroteServed p s row w .answer) ≡ 0 → ⊥) → wroteServed p s row w ≡ keeping p s (wroteServed p s row w .answer)
+unfolding wroteServed written
+wrote-keeps p s row w = go (permitOf p row w)
+  where
+    go : (k : Permit) → (answerNumber (permitted k) ≡ 0 → ⊥) → keeping (after k p) s (permitted k) ≡ keeping p s (permitted k)
+    go (Write change) n = absurd (n refl)
+    go (Refused refusal) n = refl

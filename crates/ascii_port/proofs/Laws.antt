@@ -1,0 +1,78 @@
+-- A call on bytes of Modbus ASCII, case by case. Assumes nothing.
+use mathlib.Core.Path.{_≡_, refl, sym, ap, _∙_}
+use mathlib.Core.List.{List}
+use Prim.Native.Nat.{ℕ, _-_, _≤_, _<_}
+use native.Mathlib.Omega.{arith}
+use lib.ListN.{length, getD, take, drop, length-append}
+use Rattle.base.specs.Buffers.{front}
+use Rattle.base.proofs.Sets.{front-none, take-front}
+use Rattle.pending.specs.declared.Pending.{Pending}
+use Rattle.pending.specs.declared.Scan.{Scan}
+use Rattle.pending.specs.Held.{held}
+use Rattle.modbus.specs.Answer.{unitOf}
+use Rattle.modbus.specs.Reply.{replyIn}
+use Rattle.modbus.specs.declared.answers.Answer.{Answer}
+use Rattle.modbus.proofs.Buffers.{reply-all}
+use Rattle.ascii.specs.Ascii.{bytesIn, asciiOf}
+use Rattle.ascii.proofs.Replies as Replies
+use Rattle.ascii_scan.specs.Parts.{unitAmong}
+use Rattle.modbus_service.specs.Reply.{exchanged}
+use Rattle.modbus_service.specs.declared.Exchange.{Exchange}
+use Rattle.modbus_service.specs.declared.Reply.{Reply}
+use Rattle.modbus_service.specs.declared.Reply.the-variants.{Nothing, Data}
+use Rattle.card.specs.declared.state.Card.{Card}
+use Rattle.card.specs.declared.outcome.Outcome.the-variants as Outcomes
+use Rattle.turn.specs.Turn.{cardAfter}
+use Rattle.turn.specs.Stream.{taken}
+use Rattle.turn.specs.declared.Turn.{Turn}
+use Rattle.turn.proofs.Laws.{Does, streamed-used, streamed-uses, streamed-short}
+use Rattle.ascii_port.specs.Receive.{exchangeOn, replyText, answeredBy, asciiStream, asciiReceived}
+
+-- ---- the reply is put where there is one
+pub put-none : (address : ℕ) (said : Reply) (before : List ℕ) → said ≡ Nothing → (0 ≡ length (replyText address said)) × (before ≡ front (replyText address said) before)
+put-none address said before is = rw is (refl, sym (front-none before))
+
+pub put-unit : (address n : ℕ) (said : Reply) (answer : Answer) (out before : List ℕ) → 19 ≤ length before → said ≡ Data answer
+    → (n ≡ length (replyIn (length before) (asciiOf address (unitOf answer)))) × (out ≡ front (replyIn (length before) (asciiOf address (unitOf answer))) before)
+    → (n ≡ length (replyText address said)) × (out ≡ front (replyText address said) before)
+put-unit address n said answer out before room is puts = rw is (rw (reply-all (length before) (asciiOf address (unitOf answer)) room) at puts)
+
+-- ---- a message's bytes are served
+module _ (c after : Card) (scan : Scan) (message unit : List ℕ) (address : ℕ) (e : Exchange) (n : ℕ) (out before : List ℕ)
+    (from : address ≡ getD message 0 0) (has : unit ≡ unitAmong message) (serves : e ≡ exchanged (c .plant) (c .port .sioerr) (c .station) address unit)
+    (puts : (n ≡ length (replyText address (e .reply))) × (out ≡ front (replyText address (e .reply)) before))
+    (leaves : after ≡ cardAfter c (scan .pending) (e .served)) where
+  pub answers : Does (record { card = after; outcome = Outcomes.Served (e .served .answer); used = scan .used; len = n }) out (answeredBy c scan message) before
+  answers = rw (← has, ← from, ← serves, leaves, puts .0) (refl, puts .1)
+
+-- ---- they are decoded from the text that is held
+module _ (p : Pending) (n : ℕ) (m before : List ℕ) (decodes : (n ≡ length (bytesIn (held p))) × (m ≡ front (bytesIn (held p)) before)) where
+  pub within : n ≤ length m
+  unfolding front
+  within = omega (arith, decodes .0, ap length (decodes .1) ∙ length-append (bytesIn (held p)) (drop (length (bytesIn (held p))) before))
+
+  pub decoded : take (n - 0) m ≡ bytesIn (held p)
+  decoded = let k : n - 0 ≡ length (bytesIn (held p)) = omega (arith, decodes .0) in rw (k, decodes .1) (take-front (bytesIn (held p)) before)
+
+-- a message is taken
+pub takes : (c : Card) (scan : Scan) (message : List ℕ) (r : Turn) (out before : List ℕ) → message ≡ bytesIn (held (scan .pending))
+    → Does r out (answeredBy c scan message) before → Does r out (taken asciiStream c scan) before
+takes c scan message r out before e d = rw (← e) d
+
+-- ---- what a caller may count on: the bytes used are there, one at least is used, and a reply has 19 bytes at most
+text-short : (address : ℕ) (said : Reply) → length (replyText address said) ≤ 19
+text-short address Nothing = omega arith
+text-short address (Data answer) = Replies.ascii-short address answer
+
+module _ (c : Card) (bytes : List ℕ) (room : ℕ) where
+  pub ascii-used : asciiReceived c bytes room .used ≤ length bytes
+  unfolding asciiReceived
+  ascii-used = streamed-used asciiStream c bytes room
+
+  pub ascii-uses : 19 ≤ room → 0 < length bytes → 0 < asciiReceived c bytes room .used
+  unfolding asciiReceived
+  ascii-uses = streamed-uses asciiStream c bytes room
+
+  pub ascii-short : length (asciiReceived c bytes room .reply) ≤ 19
+  unfolding asciiReceived
+  ascii-short = streamed-short asciiStream c bytes room 19 (λ scan. text-short (getD (bytesIn (held (scan .pending))) 0 0) (exchangeOn c (bytesIn (held (scan .pending))) .reply))

@@ -1,0 +1,40 @@
+-- A call on bytes of Modbus ASCII: the stream call of its messages. Assumes nothing.
+use mathlib.Core.List.{List, []}
+use Prim.Native.Nat.{ℕ}
+use lib.ListN.{getD}
+use Rattle.pending.specs.declared.Scan.{Scan}
+use Rattle.pending.specs.Held.{held}
+use Rattle.modbus.specs.Answer.{unitOf}
+use Rattle.ascii.specs.Ascii.{bytesIn, asciiOf}
+use Rattle.ascii_scan.specs.Scan.{feeding}
+use Rattle.ascii_scan.specs.Parts.{unitAmong}
+use Rattle.modbus_service.specs.Reply.{exchanged}
+use Rattle.modbus_service.specs.declared.Exchange.{Exchange}
+use Rattle.modbus_service.specs.declared.Reply.{Reply}
+use Rattle.modbus_service.specs.declared.Reply.the-variants.{Nothing, Data}
+use Rattle.card.specs.declared.state.Card.{Card}
+use Rattle.turn.specs.Turn.{Received, answered}
+use Rattle.turn.specs.Stream.{Stream, streamed}
+
+-- what a message comes to, on this card: its first byte is the address, its last the LRC, and between them stands the data unit
+abbrev pub exchangeOn : Card → List ℕ → Exchange
+exchangeOn c message = exchanged (c .plant) (c .port .sioerr) (c .station) (getD message 0 0) (unitAmong message)
+
+-- the reply's text, from the request's address
+abbrev pub replyText : ℕ → Reply → List ℕ
+replyText address Nothing = []
+replyText address (Data answer) = asciiOf address (unitOf answer)
+
+abbrev pub replyOn : Card → List ℕ → List ℕ
+replyOn c message = replyText (getD message 0 0) (exchangeOn c message .reply)
+
+abbrev pub answeredBy : Card → Scan → List ℕ → Received
+answeredBy c scan message = answered c (scan .pending) (scan .used) (exchangeOn c message .served) (replyOn c message)
+
+-- the message's bytes are those that the text held spells
+abbrev pub asciiStream : Stream
+asciiStream =
+    record { feeding = feeding; served = λ c p. exchangeOn c (bytesIn (held p)) .served; reply = λ c p. replyOn c (bytesIn (held p)) }
+
+unfoldable pub asciiReceived : Card → List ℕ → ℕ → Received
+asciiReceived = streamed asciiStream

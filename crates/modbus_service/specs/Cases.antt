@@ -1,0 +1,72 @@
+-- Worked units at station 1, one table: document 01's case 7, and one for each rule. Assumes nothing.
+use mathlib.Core.Path.{_≡_, refl}
+use mathlib.Core.List.{List, [], _∷_, map}
+use Prim.Native.Nat.{ℕ}
+use Rattle.table.specs.Table.{rows, lineAt, startWords}
+use Rattle.table.specs.Address.{address, firstRegister}
+use Rattle.table.specs.Find.{firstRow, rowOfSpan}
+use Rattle.table.specs.Allowed.{twos, within, allows, allowedAt}
+use Rattle.drive.specs.declared.plant.Plant.{Plant}
+use Rattle.drive.specs.Plant.{started}
+use Rattle.drive.specs.Flags.{flagged, lowestFrom, lowestOf}
+use Rattle.drive.specs.Faults.{flagStands, statusOf, flagRaised, acknowledged}
+use Rattle.drive.specs.Events.{isFault, raised, ended}
+use Rattle.drive.specs.Answer.{answerNumber}
+use Rattle.drive.specs.Read as Reading
+use Rattle.drive.specs.Refusals.{readOnly, boundsOf, allowed, held, permitted}
+use Rattle.drive.specs.Write.{permitOf, stored, applied, written}
+use Rattle.service.specs.Serving.{toldServed, wroteServed}
+use Rattle.modbus.specs.Words.{wordAt, longAt}
+use Rattle.modbus.specs.Request.{label, reads, writes, asked, requestOf}
+use Rattle.modbus.specs.declared.answers.Answer.the-variants.{Word, Long, Echo, Exception}
+use Rattle.modbus_service.specs.Serve.{reachesUs, taskOf, done, served}
+use Rattle.modbus_service.specs.Reply.{registersTold, repliedBy, replied, exchanged}
+use Rattle.modbus_service.specs.declared.Reply.{Reply}
+use Rattle.modbus_service.specs.declared.Reply.the-variants.{Nothing, Data}
+use Rattle.modbus_service.specs.declared.Exchange.{Exchange}
+
+-- fault 5 was raised, and its cause has ended: flag 5, of mask 20h, still stands
+abbrev over : Plant
+over = ended 5 (raised 5 started .plant) .plant
+
+-- the outcome's number, the flags then, the reply
+abbrev Result : Type 0
+Result = ℕ × ℕ × Reply
+
+abbrev result : Exchange → Result
+result e = (answerNumber (e .served .answer), e .served .plant .flags, e .reply)
+
+-- a plant, an address and a unit, and what they come to
+abbrev pub cases : List ((Plant × ℕ × List ℕ) × Result)
+cases =
+    -- "7. ★ `:01030294000165`: `:0103020001F9`. ★ `:0103070C0001E8`: `:0183027A`. ★ `:000302A4000156`: outcome 1, nothing acknowledged."
+    ((started, 1, 0x03 ∷ 0x02 ∷ 0x94 ∷ 0x00 ∷ 0x01 ∷ []), (0, 0, Data (Word 0x03 1)))
+    ∷ ((started, 1, 0x03 ∷ 0x07 ∷ 0x0C ∷ 0x00 ∷ 0x01 ∷ []), (2, 0, Data (Exception 0x03 2)))
+    ∷ ((over, 0, 0x03 ∷ 0x02 ∷ 0xA4 ∷ 0x00 ∷ 0x01 ∷ []), (1, 0x20, Nothing))
+    -- 02A4h acknowledges, 02A5h does not; both are no span
+    ∷ ((over, 1, 0x03 ∷ 0x02 ∷ 0xA4 ∷ 0x00 ∷ 0x01 ∷ []), (0, 0, Data (Word 0x03 5)))
+    ∷ ((over, 1, 0x04 ∷ 0x02 ∷ 0xA5 ∷ 0x00 ∷ 0x01 ∷ []), (0, 0x20, Data (Word 0x04 5)))
+    ∷ ((over, 1, 0x03 ∷ 0x02 ∷ 0xA4 ∷ 0x00 ∷ 0x02 ∷ []), (2, 0x20, Data (Exception 0x03 2)))
+    -- Accel 100, by 06 and by 16; to all; and while a flag stands
+    ∷ ((started, 1, 0x06 ∷ 0x06 ∷ 0xDC ∷ 0x00 ∷ 0x64 ∷ []), (0, 0, Data (Echo 0x06 (label 0x06DC) 100)))
+    ∷ ((started, 1, 0x10 ∷ 0x06 ∷ 0xDC ∷ 0x00 ∷ 0x01 ∷ 0x02 ∷ 0x00 ∷ 0x64 ∷ []), (0, 0, Data (Echo 0x10 (label 0x06DC) 1)))
+    ∷ ((started, 0, 0x06 ∷ 0x06 ∷ 0xDC ∷ 0x00 ∷ 0x64 ∷ []), (0, 0, Nothing))
+    ∷ ((over, 1, 0x06 ∷ 0x06 ∷ 0xDC ∷ 0x00 ∷ 0x64 ∷ []), (5, 0x20, Data (Exception 0x06 4)))
+    -- SpdScl num, of two registers: 1000000 low word first, and high word first; 06; its word
+    ∷ ((started, 1, 0x10 ∷ 0x07 ∷ 0x0C ∷ 0x00 ∷ 0x02 ∷ 0x04 ∷ 0x42 ∷ 0x40 ∷ 0x00 ∷ 0x0F ∷ []), (0, 0, Data (Echo 0x10 (label 0x070C) 2)))
+    ∷ ((started, 1, 0x10 ∷ 0x07 ∷ 0x0C ∷ 0x00 ∷ 0x02 ∷ 0x04 ∷ 0x00 ∷ 0x0F ∷ 0x42 ∷ 0x40 ∷ []), (4, 0, Data (Exception 0x10 3)))
+    ∷ ((started, 1, 0x06 ∷ 0x07 ∷ 0x0C ∷ 0x00 ∷ 0x01 ∷ []), (2, 0, Data (Exception 0x06 2)))
+    ∷ ((started, 1, 0x03 ∷ 0x07 ∷ 0x0C ∷ 0x00 ∷ 0x02 ∷ []), (0, 0, Data (Long 0x03 1)))
+    -- a row that is only read; a bad length, also of a broadcast read; an unknown function, also to all
+    ∷ ((started, 1, 0x06 ∷ 0x02 ∷ 0xA4 ∷ 0x00 ∷ 0x00 ∷ []), (3, 0, Data (Exception 0x06 2)))
+    ∷ ((started, 1, 0x03 ∷ 0x02 ∷ 0x94 ∷ 0x00 ∷ []), (8, 0, Data (Exception 0x03 3)))
+    ∷ ((started, 0, 0x03 ∷ 0x02 ∷ 0x94 ∷ 0x00 ∷ []), (1, 0, Nothing))
+    ∷ ((started, 1, 0xAB ∷ []), (9, 0, Data (Exception 0xAB 1)))
+    ∷ ((started, 0, 0x2B ∷ []), (9, 0, Nothing))
+    -- another address
+    ∷ ((started, 2, 0x2B ∷ []), (1, 0, Nothing))
+    ∷ []
+
+pub cases-hold : map (λ (c : (Plant × ℕ × List ℕ) × Result). result (exchanged (c .0 .0) 0 1 (c .0 .1) (c .0 .2))) cases ≡ map (λ (c : (Plant × ℕ × List ℕ) × Result). c .1) cases
+unfolding rows lineAt startWords address firstRegister firstRow rowOfSpan twos within allows allowedAt started flagged lowestFrom lowestOf flagStands statusOf flagRaised acknowledged isFault raised ended Reading.wordAt Reading.told readOnly boundsOf allowed held permitted permitOf stored applied written toldServed wroteServed wordAt longAt reads writes asked requestOf reachesUs taskOf done served registersTold repliedBy replied exchanged
+cases-hold = refl

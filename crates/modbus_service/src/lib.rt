@@ -1,0 +1,207 @@
+// A data unit of Modbus, served by the plant, for RTU and ASCII alike: the order of refusals, what is done, and what is replied.
+//
+// `serve` takes a unit and the address before it; the reply that it hands back is for the writer of the frame or of the message.
+use drive::Answer;
+use drive::Plant;
+use drive::Refusal;
+use modbus::Request;
+use service::Served;
+use table::Found;
+use table::Register;
+use table::Row;
+ghost use mathlib.Core.Path.{_≡_};
+ghost use Rattle.base.specs.Choice.{both};
+ghost use Rattle.modbus_service.specs.Serve.{toAll, reachesUs, reads, taskOf, done};
+ghost use Rattle.modbus_service.specs.Reply.{headOf, exceptionOf, registersTold, repliedBy, exchanged};
+
+// What a unit asks of the plant: a row is to tell its word, or to hold a value; or nothing, for this reason.
+enum Task {
+    Tell(Row),
+    Write(Row, u32),
+    Refuse(Answer),
+}
+
+// What a reply repeats of its request: the function, the register, and the word of a 06 or the count.
+struct Head {
+    function: u8,
+    register: Register,
+    number: u16,
+}
+
+// What is replied: nothing, or a data unit with this answer.
+pub enum Reply {
+    Nothing,
+    Data(modbus::Answer),
+}
+
+// What a unit came to, and its reply.
+pub struct Exchange {
+    pub served: Served,
+    pub reply: Reply,
+}
+
+// Serves a data unit that came behind an address: 03 and 04 tell a row, 06 and 16 write one. A refusal changes nothing. `station` is our own
+// address.
+pub fn serve(plant: Plant, sioerr: u32, station: u32, address: u8, unit: &[u8]) -> Exchange
+    ensures { λ r. ⌜ r ≡ exchanged plant sioerr station address (now (unit .entry)) ⌝ }
+{
+    let request = modbus::request_of(unit);
+    let task = task_of(station, address, request, unit);
+    let served = do_task(plant, sioerr, task);
+    let answer = served.answer;
+    let reply = reply_to(address, head_of(request), answer);
+    Exchange { served, reply }
+}
+
+// Whether the address is ours or broadcast.
+fn reaches_us(station: u32, address: u8) -> bool
+    ensures { λ r. ⌜ r ≡ reachesUs station address ⌝ }
+{
+    if address == 0 {
+        return true;
+    }
+    (address as u32) == station
+}
+
+// What a request asks of the plant, by the refusals 1, 9, 1, 8, 2 in this order.
+fn task_of(station: u32, address: u8, request: Request, unit: &[u8]) -> Task
+    ensures { λ r. ⌜ r ≡ taskOf station address request (now (unit .entry)) ⌝ }
+{
+    if !reaches_us(station, address) {
+        return Task::Refuse(Answer::NotOurs);
+    }
+    match request {
+        Request::Read(_, first, count) => {
+            if address == 0 {
+                return Task::Refuse(Answer::NotOurs);
+            }
+            let Found::At(row) = first.span(count) else {
+                return Task::Refuse(Answer::Refused(Refusal::NoRow));
+            };
+            Task::Tell(row)
+        }
+        Request::One(register, word) => {
+            let Found::At(row) = register.span(1) else {
+                return Task::Refuse(Answer::Refused(Refusal::NoRow));
+            };
+            Task::Write(row, word as u32)
+        }
+        Request::Many(first, count, place) => {
+            let Found::At(row) = first.span(count) else {
+                return Task::Refuse(Answer::Refused(Refusal::NoRow));
+            };
+            Task::Write(row, modbus::long_at(unit, place.from))
+        }
+        Request::Malformed(function) => {
+            if broadcast_read(address, function) {
+                return Task::Refuse(Answer::NotOurs);
+            }
+            Task::Refuse(Answer::Refused(Refusal::Malformed))
+        }
+        Request::Unknown(_) => Task::Refuse(Answer::Refused(Refusal::NoFunction)),
+    }
+}
+
+// Whether a 03 or 04 came to all.
+fn broadcast_read(address: u8, function: u8) -> bool
+    ensures { λ r. ⌜ r ≡ both (toAll address) (reads function) ⌝ }
+{
+    if address != 0 {
+        return false;
+    }
+    if function == 3 {
+        return true;
+    }
+    function == 4
+}
+
+// The row is told or written, with refusals 3 to 7; or nothing changes.
+fn do_task(plant: Plant, sioerr: u32, task: Task) -> Served
+    ensures { λ r. ⌜ r ≡ done plant sioerr task ⌝ }
+{
+    match task {
+        Task::Tell(row) => service::tell(plant, sioerr, row),
+        Task::Write(row, value) => service::write(plant, sioerr, row, value),
+        Task::Refuse(answer) => service::keep(plant, sioerr, answer),
+    }
+}
+
+// What a reply repeats of a request. What is malformed or unknown has no registers that a reply could name.
+fn head_of(request: Request) -> Head
+    ensures { λ r. ⌜ r ≡ headOf request ⌝ }
+{
+    match request {
+        Request::Read(function, register, number) => Head {
+            function,
+            register,
+            number,
+        },
+        Request::One(register, number) => Head {
+            function: 6,
+            register,
+            number,
+        },
+        Request::Many(register, number, _) => Head {
+            function: 16,
+            register,
+            number,
+        },
+        Request::Malformed(function) => Head {
+            function,
+            register: Register(0),
+            number: 0,
+        },
+        Request::Unknown(function) => Head {
+            function,
+            register: Register(0),
+            number: 0,
+        },
+    }
+}
+
+// What is replied behind an address, by the head of the request and what it came to.
+fn reply_to(address: u8, head: Head, answer: Answer) -> Reply
+    ensures { λ r. ⌜ r ≡ repliedBy address head answer ⌝ }
+{
+    if address == 0 {
+        return Reply::Nothing;
+    }
+    match answer {
+        Answer::Told(row, word) => Reply::Data(registers(head.function, row, word)),
+        Answer::Written(_) => {
+            let register = head.register;
+            Reply::Data(modbus::Answer::Echo(head.function, register, head.number))
+        }
+        Answer::NotOurs => Reply::Nothing,
+        Answer::Refused(refusal) => Reply::Data(modbus::Answer::Exception(
+            head.function,
+            exception_of(refusal),
+        )),
+    }
+}
+
+// The registers of a row that told a word.
+fn registers(function: u8, row: Row, word: u32) -> modbus::Answer
+    ensures { λ r. ⌜ r ≡ registersTold function row word ⌝ }
+{
+    if row.width() == 2 {
+        return modbus::Answer::Long(function, word);
+    }
+    modbus::Answer::Word(function, (word % 65536) as u16)
+}
+
+// The exception's number.
+fn exception_of(refusal: Refusal) -> u8
+    ensures { λ r. ⌜ r ≡ exceptionOf refusal ⌝ }
+{
+    match refusal {
+        Refusal::NoRow => 2,
+        Refusal::ReadOnly => 2,
+        Refusal::NotAllowed => 3,
+        Refusal::FlagStands => 4,
+        Refusal::Running => 4,
+        Refusal::NotPermitted => 4,
+        Refusal::Malformed => 3,
+        Refusal::NoFunction => 1,
+    }
+}

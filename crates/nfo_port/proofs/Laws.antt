@@ -1,0 +1,67 @@
+-- A call on bytes of NFO serial, case by case. Assumes nothing.
+use mathlib.Core.Path.{_≡_, refl}
+use mathlib.Core.List.{List}
+use Prim.Native.Nat.{ℕ, _%_, _≤_, _<_}
+use native.Mathlib.Omega.{arith}
+use lib.Dec.{eqb}
+use lib.ListN.{length}
+use Rattle.base.specs.Buffers.{front, fitting}
+use Rattle.base.proofs.Sets.{fitting-all}
+use Rattle.base.proofs.Tests.{pick-both}
+use Rattle.pending.specs.declared.Scan.{Scan}
+use Rattle.nfo.specs.declared.message.Message.{Message}
+use Rattle.nfo.specs.Parts.{messageOf}
+use Rattle.nfo.specs.Replies.{ackOf, nakOf}
+use Rattle.nfo.proofs.Written.{reply-length}
+use Rattle.service.specs.declared.Served.{Served}
+use Rattle.nfo_service.specs.Serve as Serve
+use Rattle.nfo_service.specs.Reply.{adrIn, parameterIn, numberOf, repliedBy, replied}
+use Rattle.drive.specs.declared.answer.Answer.{Answer}
+use Rattle.drive.specs.declared.answer.Answer.the-variants.{Told, Written, NotOurs, Refused}
+use Rattle.card.specs.declared.state.Card.{Card}
+use Rattle.card.specs.declared.outcome.Outcome.the-variants as Outcomes
+use Rattle.turn.specs.Turn.{cardAfter}
+use Rattle.turn.specs.Stream.{taken}
+use Rattle.turn.specs.declared.Turn.{Turn}
+use Rattle.turn.proofs.Laws.{Does, streamed-used, streamed-uses, streamed-short}
+use Rattle.nfo_port.specs.Receive.{nfoStream, nfoReceived}
+
+-- ---- a reply has 14 bytes at most
+by-short : (adr e : ℕ) (a : Answer) → length (repliedBy adr e a) ≤ 14
+unfolding repliedBy ackOf nakOf
+by-short adr e (Told row word) = omega (arith, reply-length adr e (word % 65536))
+by-short adr e (Written change) = omega arith
+by-short adr e NotOurs = omega arith
+by-short adr e (Refused refusal) = omega arith
+
+pub reply-short : (m : Message) (a : Answer) → length (replied m a) ≤ 14
+unfolding replied
+reply-short m a = pick-both (λ (b : List ℕ). length b ≤ 14) (eqb (adrIn m) 0x7F) (λ _. omega arith) (λ _. by-short (adrIn m) (numberOf (parameterIn m)) a)
+
+-- ---- a message is taken
+module _ (c after : Card) (scan : Scan) (m : Message) (s : Served) (n : ℕ) (out before : List ℕ) (room : 19 ≤ length before)
+    (parts : m ≡ messageOf (scan .pending .bytes)) (serves : s ≡ Serve.served (c .plant) (c .port .sioerr) m)
+    (puts : (n ≡ length (fitting (replied m (s .answer)) (length before))) × (out ≡ front (fitting (replied m (s .answer)) (length before)) before))
+    (leaves : after ≡ cardAfter c (scan .pending) s) where
+  whole : fitting (replied m (s .answer)) (length before) ≡ replied m (s .answer)
+  whole = fitting-all (replied m (s .answer)) (length before) (omega (arith, reply-short m (s .answer)))
+
+  pub takes : Does (record { card = after; outcome = Outcomes.Served (s .answer); used = scan .used; len = n }) out (taken nfoStream c scan) before
+  takes =
+      let count : n ≡ length (replied m (s .answer)) = rw whole at (puts .0) in
+      let lent : out ≡ front (replied m (s .answer)) before = rw whole at (puts .1) in
+      rw (← parts, ← serves, count, leaves) (refl, lent)
+
+-- ---- what a caller may count on: the bytes used are there, one at least is used, and a reply has 14 bytes at most
+module _ (c : Card) (bytes : List ℕ) (room : ℕ) where
+  pub nfo-used : nfoReceived c bytes room .used ≤ length bytes
+  unfolding nfoReceived
+  nfo-used = streamed-used nfoStream c bytes room
+
+  pub nfo-uses : 19 ≤ room → 0 < length bytes → 0 < nfoReceived c bytes room .used
+  unfolding nfoReceived
+  nfo-uses = streamed-uses nfoStream c bytes room
+
+  pub nfo-short : length (nfoReceived c bytes room .reply) ≤ 14
+  unfolding nfoReceived
+  nfo-short = streamed-short nfoStream c bytes room 14 (λ scan. reply-short _ _)

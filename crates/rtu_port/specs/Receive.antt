@@ -1,0 +1,36 @@
+-- A call on a frame of Modbus RTU: "An RTU call uses all, save at 10". Assumes nothing.
+use mathlib.Core.List.{List, []}
+use Prim.Native.Nat.{ℕ}
+use lib.Dec.{ltb}
+use lib.ListN.{length}
+use Rattle.base.specs.Choice.{pick}
+use Rattle.modbus.specs.Answer.{unitOf}
+use Rattle.rtu.specs.Rtu.{frameHolds, addressIn, unitIn, rtuOf}
+use Rattle.modbus_service.specs.Reply.{exchanged}
+use Rattle.modbus_service.specs.declared.Exchange.{Exchange}
+use Rattle.modbus_service.specs.declared.Reply.{Reply}
+use Rattle.modbus_service.specs.declared.Reply.the-variants.{Nothing, Data}
+use Rattle.card.specs.declared.state.Card.{Card}
+use Rattle.card.specs.declared.outcome.Outcome.the-variants as Outcomes
+use Rattle.turn.specs.Turn.{Received, tooShort, answered}
+
+-- what a frame's data unit comes to, on this card
+abbrev pub exchangeOn : Card → List ℕ → Exchange
+exchangeOn c frame = exchanged (c .plant) (c .port .sioerr) (c .station) (addressIn frame) (unitIn frame)
+
+-- the reply's frame, from the request's address
+abbrev pub frameOf : ℕ → Reply → List ℕ
+frameOf address Nothing = []
+frameOf address (Data answer) = rtuOf address (unitOf answer)
+
+-- "11: RTU length or CRC wrong"
+abbrev pub spoilt : Card → ℕ → Received
+spoilt c used = record { card = c; outcome = Outcomes.BadFrame; used = used; reply = [] }
+
+-- length and CRC are right
+abbrev pub taken : Card → List ℕ → Received
+taken c frame = answered c (c .port .pending) (length frame) (exchangeOn c frame .served) (frameOf (addressIn frame) (exchangeOn c frame .reply))
+
+-- "Order: 10 first, in every reply call; .. Modbus 11, 1 by address, .."
+unfoldable pub rtuReceived : Card → List ℕ → ℕ → Received
+rtuReceived c frame room = pick (ltb room 19) (tooShort c) (pick (frameHolds frame) (taken c frame) (spoilt c (length frame)))
