@@ -1,14 +1,17 @@
 -- What a master's writer tells and puts, by whether the request can be said and whether its message fits: a law for each case, of both its
 -- clauses. Assumes nothing.
-use mathlib.Core.Path.{_≡_, ap, sym, _∙_}
-use mathlib.Core.Bool.{Bool, true, false}
+use mathlib.Core.Path.{_≡_, refl, ap, sym, _∙_}
+use mathlib.Core.Bool.{Bool, true, false, not}
 use mathlib.Core.List.{List, [], _++_}
 use Prim.Native.Nat.{ℕ, _<_, _≤_}
-use borrow.Author.Tests.{lt-ltb, le-ltb}
+use native.Mathlib.Omega.{arith}
+use borrow.Author.Tests.{lt-ltb, le-ltb, ltb-true, ltb-false}
+use lib.Dec.{ltb}
 use lib.ListN.{length, take, drop}
 use lib.Seq.{take-length}
+use Rattle.base.specs.Choice.{pick}
 use Rattle.base.specs.Buffers.{front}
-use Rattle.base.proofs.Sets.{fitting-all, fitting-none, front-none}
+use Rattle.base.proofs.Sets.{fitting-all, fitting-none, front-none, take-front}
 use Rattle.master.specs.declared.Sent.{Sent}
 use Rattle.master.specs.declared.Sent.the-variants.{Written, CannotBeSaid, ShortBuffer}
 use Rattle.master.specs.Sent.{sentOf, bytesSent}
@@ -65,3 +68,27 @@ module _ (s : Bool) (m buf : List ℕ) where
 pub copied-front : (m buf out : List ℕ) → out ≡ take (length m) m ++ drop (length m) buf → out ≡ front m buf
 unfolding front
 copied-front m buf out e = e ∙ rw take-length
+
+-- ---- what was told says which case it was: 13 where the request cannot be said, 10 where it can and its message does not fit, else 0
+module _ (s : Bool) (m : List ℕ) (n : ℕ) where
+  pub sent-cases : (P : Sent → Type 0) → (s ≡ false → P CannotBeSaid) → (s ≡ true → n < length m → P ShortBuffer) → (s ≡ true → length m ≤ n → P (Written (length m)))
+      → P (sentOf s m n)
+  unfolding sentOf
+  sent-cases P cannot short written = go s (ltb n (length m)) refl refl
+    where
+      go : (t u : Bool) → s ≡ t → ltb n (length m) ≡ u → P (pick (not t) CannotBeSaid (pick u ShortBuffer (Written (length m))))
+      go false u p q = cannot p
+      go true true p q = short p (ltb-true n (length m) q)
+      go true false p q = written p (ltb-false n (length m) q)
+
+  pub written-only : (k : ℕ) → sentOf s m n ≡ Written k → (s ≡ true) × (length m ≤ n) × (k ≡ length m)
+  written-only k = sent-cases (λ (r : Sent). r ≡ Written k → (s ≡ true) × (length m ≤ n) × (k ≡ length m))
+      (λ p e. let z : _≡_ {A = ℕ} 0 1 = cc in absurd (omega arith))
+      (λ p h e. let z : _≡_ {A = ℕ} 0 1 = cc in absurd (omega arith))
+      (λ p h e. (p, h, cc))
+
+-- and where it was 0, so many bytes at the start of the buffer are the message
+pub written-message : (s : Bool) (m buf out : List ℕ) (k : ℕ) → sentOf s m (length buf) ≡ Written k → out ≡ front (bytesSent s m (length buf)) buf → take k out ≡ m
+written-message s m buf out k e q =
+    let r = written-only s m (length buf) k e in
+    rw (r .2, q, written-bytes s m buf (r .0) (r .1)) (take-front m buf)

@@ -1,11 +1,14 @@
 -- The requests: when they can be said, and what the code's arrays hold. Assumes nothing.
 use mathlib.Core.Path.{_≡_, ap, _∙_}
-use mathlib.Core.Bool.{Bool, true, false}
+use mathlib.Core.Bool.{Bool, true, false, not}
 use mathlib.Core.List.{List, [], _∷_, _++_}
 use Prim.Native.Nat.{ℕ, _+_, _/_, _%_, _<_, _≤_}
-use borrow.Author.Tests.{lt-leb, le-leb, ne-eqb}
+use native.Mathlib.Omega.{arith}
+use borrow.Author.Tests.{le-leb, leb-true, ne-eqb, eqb-false, not-true}
+use lib.Dec.{eqb, leb}
 use lib.Seq.{sets}
 use Rattle.base.specs.Buffers.{front, fitting}
+use Rattle.base.proofs.Tests.{both-out, is-false}
 use Rattle.hex.specs.Hex.{hexOf}
 use Rattle.nfo.specs.Replies.{digitsOf, bodyOf, replyOf}
 use Rattle.master.specs.declared.Sent.{Sent}
@@ -13,27 +16,32 @@ use Rattle.master.specs.Sent.{sentOf, bytesSent}
 use Rattle.master.proofs.Sends.{said-sent, said-lent}
 use Rattle.master_nfo.specs.Requests.{enquirable, selectable, enquiryOf, selectOf}
 
--- ---- when a request can be said
+-- ---- when a request can be said: "addresses above 95 .., a broadcast read"
 module _ (a : ℕ) where
-  pub enquirable-above : 95 < a → enquirable a ≡ false
+  pub enquirable-below : a < 95 → enquirable a ≡ true
   unfolding enquirable
-  enquirable-above h = simp (lt-leb a 95 h)
+  enquirable-below h = let other : a ≡ 95 → ⊥ = λ e. omega arith in simp (le-leb a 95 (omega arith), ne-eqb a 95 other)
 
-  pub enquirable-all : a ≡ 95 → enquirable a ≡ false
+  pub enquirable-is : enquirable a ≡ true → a < 95
   unfolding enquirable
-  enquirable-all h = simp h
+  enquirable-is h =
+      let r = both-out (leb a 95) (not (eqb a 95)) h in
+      let other : a ≡ 95 → ⊥ = eqb-false a 95 (not-true (eqb a 95) (r .1)) in
+      omega (arith, leb-true a 95 (r .0))
 
-  pub enquirable-below : a ≤ 95 → (a ≡ 95 → ⊥) → enquirable a ≡ true
-  unfolding enquirable
-  enquirable-below h k = simp (le-leb a 95 h, ne-eqb a 95 k)
-
-  pub selectable-above : 95 < a → selectable a ≡ false
-  unfolding selectable
-  selectable-above h = lt-leb a 95 h
+  pub enquirable-other : 95 ≤ a → enquirable a ≡ false
+  enquirable-other h = is-false (enquirable a) (λ e. omega (arith, enquirable-is e))
 
   pub selectable-below : a ≤ 95 → selectable a ≡ true
   unfolding selectable
   selectable-below h = le-leb a 95 h
+
+  pub selectable-is : selectable a ≡ true → a < 96
+  unfolding selectable
+  selectable-is h = omega (arith, leb-true a 95 h)
+
+  pub selectable-other : 95 < a → selectable a ≡ false
+  selectable-other h = is-false (selectable a) (λ e. omega (arith, selectable-is e))
 
 -- ---- a message that the code made, put
 module _ (t : Bool) (h : t ≡ true) (made message : List ℕ) (q : made ≡ message) (n : ℕ) where

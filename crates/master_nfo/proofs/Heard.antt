@@ -1,11 +1,8 @@
 -- What the master writes is one well-formed message, and what the card reads in it is the request that was made. Assumes nothing.
 use mathlib.Core.Path.{_≡_, refl, ap, _∙_}
-use mathlib.Core.Bool.{true, not}
+use mathlib.Core.Bool.{true}
 use mathlib.Core.List.{_∷_}
 use Prim.Native.Nat.{ℕ, _+_, _<_}
-use native.Mathlib.Omega.{arith}
-use borrow.Author.Tests.{leb-true, eqb-false, not-true}
-use lib.Dec.{eqb, leb}
 use lib.ListN.{length, getD}
 use Rattle.base.proofs.Tests.{both-out}
 use Rattle.hex.specs.Hex.{hexOf}
@@ -19,22 +16,10 @@ use Rattle.nfo.specs.Replies.{digitsOf, bodyOf, replyOf}
 use Rattle.nfo.proofs.Address.{adr-fits}
 use Rattle.nfo.proofs.Shape.{whole-at}
 use Rattle.nfo.proofs.Written.{reply-formed}
-use Rattle.master_nfo.specs.Requests.{enquirable, selectable, enquiryOf, selectOf}
+use Rattle.master_nfo.specs.Requests.{enquiryOf, selectOf}
 use Rattle.master_nfo.specs.Replies.{reply, checked, replied}
 use Rattle.master_nfo.proofs.Words.{word-spelt}
 use Rattle.master_nfo.proofs.Bytes.{reply-replied}
-
--- ---- to whom a request can be said: "addresses above 95 .., a broadcast read"
-pub enquirable-is : (a : ℕ) → enquirable a ≡ true → a < 95
-unfolding enquirable
-enquirable-is a h =
-    let r = both-out (leb a 95) (not (eqb a 95)) h in
-    let other : a ≡ 95 → ⊥ = eqb-false a 95 (not-true (eqb a 95) (r .1)) in
-    omega (arith, leb-true a 95 (r .0))
-
-pub selectable-is : (a : ℕ) → selectable a ≡ true → a < 96
-unfolding selectable
-selectable-is a h = omega (arith, leb-true a 95 h)
 
 -- ---- "ENQUIRY, 8 bytes"
 module _ (a e : ℕ) where

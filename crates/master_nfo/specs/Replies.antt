@@ -50,10 +50,11 @@ toldBy address (Number e) (Word word) = Told address e word
 toldBy address (Number e) NotHex = NotAReply
 toldBy address NoNumber value = NotAReply
 
--- "a reply must fill its slice exactly, with the shape, check and hex above .. Else 14, and only then." "ADR is address + 32"
+-- "ADR is address + 32"
 abbrev pub addressIn : List ℕ → ℕ
 addressIn s = getD s 0 0 - 32
 
+-- "a reply must fill its slice exactly, with the shape, check and hex above .. Else 14, and only then."
 unfoldable pub readOf : List ℕ → Reply
 readOf s =
     firstOf (when (whole ack s) (Acknowledged (addressIn s))

@@ -5,6 +5,7 @@ use table::ENumber;
 ghost use mathlib.Core.Path.{_≡_};
 ghost use mathlib.Core.List.{[], _∷_};
 ghost use Prim.Native.Nat.{_+_, _*_, _≤_};
+ghost use lib.ListN.{length};
 ghost use Rattle.nfo.specs.Shape.{fits};
 ghost use Rattle.nfo.specs.Message.{ADR};
 ghost use Rattle.nfo.specs.Parts.{valueAt};
@@ -70,7 +71,7 @@ fn short_reply(adr: u8, code: u8) -> Reply
 // place:  0   1  2       6 7  8    11 12 13
 // REPLY:  ADR 02 p p p p p 3D v v v v 03 BCC
 fn long_reply(bytes: &[u8]) -> Reply
-    requires { do ⌜ (← ⟦bytes.len()⟧) ≡ 14 ⌝ }
+    requires { ⌜ length (now bytes) ≡ 14 ⌝ }
     ensures { λ r. ⌜ r ≡ readOf (now (bytes .entry)) ⌝ }
 {
     if !is_framed(bytes) {
@@ -87,7 +88,7 @@ fn long_reply(bytes: &[u8]) -> Reply
 
 // Whether all but the digits is a REPLY's: ADR, 02, `E`, `=`, 03 and BCC.
 fn is_framed(bytes: &[u8]) -> bool
-    requires { do ⌜ (← ⟦bytes.len()⟧) ≡ 14 ⌝ }
+    requires { ⌜ length (now bytes) ≡ 14 ⌝ }
     ensures { λ r. ⌜ r ≡ framed (now (bytes .entry)) ⌝ }
 {
     if !is_adr(bytes[0]) {
@@ -101,7 +102,7 @@ fn is_framed(bytes: &[u8]) -> bool
 
 // Whether the last byte is the BCC of those from after 02 up to and with 03.
 fn is_checked(bytes: &[u8]) -> bool
-    requires { do ⌜ (← ⟦bytes.len()⟧) ≡ 14 ⌝ }
+    requires { ⌜ length (now bytes) ≡ 14 ⌝ }
     ensures { λ r. ⌜ r ≡ checked (now (bytes .entry)) ⌝ }
 {
     bytes[13] == checks::bcc(&bytes[2..13])
@@ -135,7 +136,7 @@ fn is_marked(a: u8, b: u8, c: u8, d: u8) -> bool
 
 // The word that four hex digits spell, the high one first.
 fn value_at(bytes: &[u8], at: usize) -> Value
-    requires { do ⌜ at + 4 ≤ (← ⟦bytes.len()⟧) ⌝ }
+    requires { ⌜ at + 4 ≤ length (now bytes) ⌝ }
     ensures { λ r. ⌜ r ≡ valueAt at (now (bytes .entry)) ⌝ }
 {
     let Pair::Byte(high) = hex::pair_value(bytes[at], bytes[at + 1]) else {

@@ -10,19 +10,16 @@ ghost use Rattle.base.specs.Buffers.{front};
 ghost use Rattle.master.specs.Sent.{sentOf, bytesSent};
 ghost use Rattle.master_nfo.specs.Requests.{enquirable, selectable, enquiryOf, selectOf};
 
-// ENQUIRY: asks for the parameter's word. 95 is broadcast, and nobody answers for all.
+// ENQUIRY: asks for the parameter's word. It cannot be said to 95, which is broadcast.
 pub fn enquiry(address: u8, e: ENumber, out: &mut [u8]) -> Sent
     ensures sent { λ r. ⌜ r ≡ sentOf (enquirable address) (enquiryOf address (e .0)) (length (now (out .entry))) ⌝ }
     ensures lent { λ _. ⌜ now (out .exit) ≡ front (bytesSent (enquirable address) (enquiryOf address (e .0)) (length (now (out .entry)))) (now (out .entry)) ⌝ }
 {
-    if 95 < address {
-        return Sent::CannotBeSaid;
+    if address < 95 {
+        let m = enquiry_to(address, e);
+        return send(&m, out);
     }
-    if address == 95 {
-        return Sent::CannotBeSaid;
-    }
-    let m = enquiry_to(address, e);
-    send(&m, out)
+    Sent::CannotBeSaid
 }
 
 // SELECT: writes the parameter's word, two's complement. To 95 it is for all.

@@ -30,7 +30,7 @@ use Rattle.modbus.specs.declared.requests.Request.{Request}
 use Rattle.modbus.specs.declared.requests.Request.the-variants.{Read, One, Many, Malformed, Unknown}
 use Rattle.modbus.specs.declared.answers.Answer as Units
 use Rattle.modbus.specs.declared.answers.Answer.the-variants.{Word, Long, Echo, Exception}
-use Rattle.modbus_service.specs.Serve.{toAll, reachesUs, reads, taskOf, done, served}
+use Rattle.modbus_service.specs.Serve.{toAll, reachesUs, reading, taskOf, done, served}
 use Rattle.modbus_service.specs.Reply.{headOf, exceptionOf, registersTold, repliedBy, replied, exchanged}
 use Rattle.modbus_service.specs.declared.Task.{Task}
 use Rattle.modbus_service.specs.declared.Task.the-variants.{Tell, Write, Refuse}
@@ -85,11 +85,11 @@ module _ (st a : ℕ) (q : Request) (u : List ℕ) (t : Bool) (reaches : t ≡ r
     task-many r n v place g row e d h k = simp (to-us, e, both-false (toAll a), sym d ∙ h, k)
 
     -- a bad length or count
-    pub task-malformed-all : (f : ℕ) (b : Bool) → q ≡ Malformed f → b ≡ both (toAll a) (reads f) → b ≡ true → Refuse Answers.NotOurs ≡ taskOf st a q u
+    pub task-malformed-all : (f : ℕ) (b : Bool) → q ≡ Malformed f → b ≡ both (toAll a) (reading f) → b ≡ true → Refuse Answers.NotOurs ≡ taskOf st a q u
     unfolding taskOf
     task-malformed-all f b e d h = simp (to-us, e, sym d ∙ h)
 
-    pub task-malformed : (f : ℕ) (b : Bool) → q ≡ Malformed f → b ≡ both (toAll a) (reads f) → b ≡ false → Refuse (Answers.Refused Refusals.Malformed) ≡ taskOf st a q u
+    pub task-malformed : (f : ℕ) (b : Bool) → q ≡ Malformed f → b ≡ both (toAll a) (reading f) → b ≡ false → Refuse (Answers.Refused Refusals.Malformed) ≡ taskOf st a q u
     unfolding taskOf
     task-malformed f b e d h = simp (to-us, e, sym d ∙ h)
 

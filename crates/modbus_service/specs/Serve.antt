@@ -36,15 +36,15 @@ reachesUs station address = either (toAll address) (eqb address station)
 
 -- ---- what it asks
 -- "Functions 03, 04 (same as 03; ours)"
-abbrev pub reads : ℕ → Bool
-reads function = either (eqb function 3) (eqb function 4)
+abbrev pub reading : ℕ → Bool
+reading function = either (eqb function 3) (eqb function 4)
 
 -- 03 and 04, also where their length or count is bad
 abbrev pub asksRead : Request → Bool
 asksRead (Read function first count) = true
 asksRead (One register word) = false
 asksRead (Many first count place) = false
-asksRead (Malformed function) = reads function
+asksRead (Malformed function) = reading function
 asksRead (Unknown function) = false
 
 abbrev pub isUnknown : Request → Bool
@@ -87,8 +87,8 @@ pub modbus-order : (p : Plant) (station address : ℕ) (request : Request) (row 
 modbus-order p station address request row w = refl
 
 -- ---- what it asks of a row
--- 06 writes its word, 16 the value of its register bytes: "32-bit values low word first". A unit of 16 ends behind its registers, so that of one register
--- this is its word. What is malformed or unknown was refused; there this only fills the place
+-- 06 writes its word, 16 the value of its register bytes: "32-bit values low word first". A unit ends behind its registers, so that of one register this
+-- is its word (`many-one` in proofs/Replies). What is malformed or unknown was refused; there this only fills the place
 abbrev pub taskAt : Row → Request → List ℕ → Task
 taskAt row (Read function first count) unit = Tell row
 taskAt row (One register word) unit = Write row word

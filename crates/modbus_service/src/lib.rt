@@ -11,7 +11,7 @@ use table::Register;
 use table::Row;
 ghost use mathlib.Core.Path.{_≡_};
 ghost use Rattle.base.specs.Choice.{both};
-ghost use Rattle.modbus_service.specs.Serve.{toAll, reachesUs, reads, taskOf, done};
+ghost use Rattle.modbus_service.specs.Serve.{toAll, reachesUs, reading, taskOf, done};
 ghost use Rattle.modbus_service.specs.Reply.{headOf, exceptionOf, registersTold, repliedBy, exchanged};
 
 // What a unit asks of the plant: a row is to tell its word, or to hold a value; or nothing, for this reason.
@@ -63,7 +63,7 @@ fn reaches_us(station: u32, address: u8) -> bool
     (address as u32) == station
 }
 
-// What a request asks of the plant, by the refusals 1, 9, 1, 8, 2 in this order.
+// What a request asks of the plant, or the first of the refusals 1, 9, 1, 8, 2 that applies.
 fn task_of(station: u32, address: u8, request: Request, unit: &[u8]) -> Task
     ensures { λ r. ⌜ r ≡ taskOf station address request (now (unit .entry)) ⌝ }
 {
@@ -104,7 +104,7 @@ fn task_of(station: u32, address: u8, request: Request, unit: &[u8]) -> Task
 
 // Whether a 03 or 04 came to all.
 fn broadcast_read(address: u8, function: u8) -> bool
-    ensures { λ r. ⌜ r ≡ both (toAll address) (reads function) ⌝ }
+    ensures { λ r. ⌜ r ≡ both (toAll address) (reading function) ⌝ }
 {
     if address != 0 {
         return false;

@@ -1,0 +1,76 @@
+-- What the card replies over NFO serial is read back as what was answered. Assumes nothing.
+use mathlib.Core.Path.{_≡_, refl, ap, _∙_}
+use mathlib.Core.Logic.{_⊎_, inl, inr}
+use mathlib.Core.Bool.{Bool, true, false}
+use mathlib.Core.List.{List, []}
+use Prim.Native.Nat.{ℕ, _+_, _*_, _%_, _<_}
+use native.Mathlib.Omega.{arith}
+use lib.Dec.{eqb}
+use lib.ListN.{getD}
+use Rattle.base.specs.Choice.{pick}
+use Rattle.base.proofs.Tests.{pick-both}
+use Rattle.hex.specs.Hex.{pairValue}
+use Rattle.hex.specs.declared.Pair.{Pair}
+use Rattle.hex.specs.declared.Pair.the-variants.{Byte, NoByte}
+use Rattle.hex.proofs.RoundTrip.{pair-below}
+use Rattle.drive.specs.declared.answer.Answer.{Answer}
+use Rattle.drive.specs.declared.answer.Answer.the-variants as Answers
+use Rattle.nfo.specs.Shape.{fits, whole}
+use Rattle.nfo.specs.Message.{ADR, enquiry, select, formed}
+use Rattle.nfo.specs.Parts.{wordIn, valueAt, numberIn, parameterAt, messageOf}
+use Rattle.nfo.specs.declared.message.Message.{Message}
+use Rattle.nfo.specs.declared.message.Message.the-variants.{Enquiry, Select}
+use Rattle.nfo.specs.declared.message.Parameter.{Parameter}
+use Rattle.nfo.specs.declared.message.Parameter.the-variants.{Number, NoNumber}
+use Rattle.nfo.specs.declared.message.Value.{Value}
+use Rattle.nfo.specs.declared.message.Value.the-variants.{Word, NotHex}
+use Rattle.nfo.proofs.Shape.{whole-at}
+use Rattle.nfo.proofs.Lawful.{formed-shape}
+use Rattle.nfo_service.specs.Reply.{adrIn, parameterIn, numberOf, repliedBy, replied}
+use Rattle.master_nfo.specs.Replies.{readOf}
+use Rattle.master_nfo.proofs.Answered.{reply-read, ack-read, nak-read}
+use Rattle.demands.specs.Demand2.{heardBack}
+
+-- ---- a message has an ADR, and the number of its parameter has four digits
+abbrev Named : Message → Type 0
+Named m = (fits ADR (adrIn m) ≡ true) × (numberOf (parameterIn m) < 65536)
+
+value-below : (m : List ℕ) (i : ℕ) → numberOf (numberIn (valueAt i m)) < 65536
+unfolding valueAt
+value-below m i = go (pairValue (getD m i 0) (getD m (i + 1) 0)) (pairValue (getD m (i + 2) 0) (getD m (i + 3) 0)) refl refl
+  where
+    go : (x y : Pair) → pairValue (getD m i 0) (getD m (i + 1) 0) ≡ x → pairValue (getD m (i + 2) 0) (getD m (i + 3) 0) ≡ y → numberOf (numberIn (wordIn x y)) < 65536
+    go (Byte h) (Byte l) p q = omega (arith, pair-below _ _ h p, pair-below _ _ l q)
+    go (Byte h) NoByte p q = omega arith
+    go NoByte y p q = omega arith
+
+parameter-below : (m : List ℕ) (i : ℕ) → numberOf (parameterAt i m) < 65536
+unfolding parameterAt
+parameter-below m i = pick-both (λ (x : Parameter). numberOf x < 65536) (eqb (getD m i 0) 0x45) (λ _. value-below m (i + 1)) (λ _. omega arith)
+
+adr : (m : List ℕ) → formed m ≡ true → fits ADR (getD m 1 0) ≡ true
+unfolding enquiry select
+adr m w = go (formed-shape m w)
+  where
+    go : (whole enquiry m ≡ true) ⊎ (whole select m ≡ true) → fits ADR (getD m 1 0) ≡ true
+    go (inl h) = whole-at _ m 1 h
+    go (inr h) = whole-at _ m 1 h
+
+named : (m : List ℕ) → formed m ≡ true → Named (messageOf m)
+unfolding messageOf
+named m w = pick-both Named (eqb (getD m 2 0) 0x02) (λ _. (adr m w, parameter-below m 3)) (λ _. (adr m w, parameter-below m 2))
+
+-- ---- each answer is read back
+abbrev Back : Message → Answer → List ℕ → Type 0
+Back m a bytes = (bytes ≡ []) ⊎ (readOf bytes ≡ heardBack m a)
+
+by-back : (m : Message) (a : Answer) → Named m → Back m a (repliedBy (adrIn m) (numberOf (parameterIn m)) a)
+unfolding repliedBy
+by-back m (Answers.Told row word) h = inr (reply-read (adrIn m) (numberOf (parameterIn m)) (word % 65536) (h .0) (h .1) (omega arith))
+by-back m (Answers.Written change) h = inr (ack-read (adrIn m) (h .0))
+by-back m Answers.NotOurs h = inl refl
+by-back m (Answers.Refused refusal) h = inr (nak-read (adrIn m) (h .0))
+
+pub told-back : (m : List ℕ) → formed m ≡ true → (a : Answer) → Back (messageOf m) a (replied (messageOf m) a)
+unfolding replied
+told-back m w a = pick-both (Back (messageOf m) a) (eqb (adrIn (messageOf m)) 0x7F) (λ _. inl refl) (λ _. by-back (messageOf m) a (named m w))

@@ -1,0 +1,144 @@
+-- What a unit's answer can be: only a read tells, only a write is written, and a reply comes from our own address. Assumes nothing.
+use mathlib.Core.Path.{_≡_, refl, sym, subst, _∙_}
+use mathlib.Core.Logic.{_⊎_, inl, inr}
+use mathlib.Core.Bool.{Bool, true, false, not, true≢false}
+use mathlib.Core.List.{List}
+use Prim.Native.Nat.{ℕ, _≤_}
+use native.Mathlib.Omega.{arith}
+use borrow.Author.Tests.{eqb-true, leb-true, not-false}
+use lib.Dec.{eqb, leb}
+use lib.ListN.{length, getD}
+use Rattle.base.specs.Choice.{pick, both, either}
+use Rattle.base.proofs.Tests.{pick-both, both-out, either-out}
+use Rattle.table.specs.Find.{rowOfSpan}
+use Rattle.table.specs.declared.labels.Register.{Register}
+use Rattle.drive.specs.declared.plant.Plant.{Plant}
+use Rattle.drive.specs.declared.answer.Answer.{Answer}
+use Rattle.drive.specs.declared.answer.Answer.the-variants as Answers
+use Rattle.drive.specs.declared.write.Permit.{Permit}
+use Rattle.drive.specs.declared.write.Permit.the-variants as Permits
+use Rattle.drive.specs.Write.{written}
+use Rattle.service.specs.Serving.{isNone, theRow, permitted, toldServed, wroteServed}
+use Rattle.modbus.specs.Words.{wordAt, longAt}
+use Rattle.modbus.specs.Request.{between, reads, writes, asked, requestOf}
+use Rattle.modbus.specs.declared.requests.Span.{Span}
+use Rattle.modbus.specs.declared.requests.Request.{Request}
+use Rattle.modbus.specs.declared.requests.Request.the-variants.{Read, One, Many, Malformed, Unknown}
+use Rattle.modbus.specs.declared.answers.Answer as Units
+use Rattle.modbus_service.specs.Serve.{toAll, reachesUs, asksRead, taskOf, done, served}
+use Rattle.modbus_service.specs.Reply.{headOf, answered, repliedBy, replied, exchanged}
+use Rattle.modbus_service.specs.declared.Reply.{Reply}
+use Rattle.modbus_service.specs.declared.Reply.the-variants.{Nothing, Data}
+use Rattle.modbus_service.specs.declared.Task.{Task}
+use Rattle.modbus_service.specs.declared.Task.the-variants.{Refuse}
+
+-- ---- a request has the numbers of its function
+abbrev pub Made : Request → Type 0
+Made (Read function first count) = (3 ≤ function) × (function ≤ 4)
+Made (One register word) = Unit {0}
+Made (Many first count place) = (1 ≤ count) × (count ≤ 123)
+Made (Malformed function) = Unit {0}
+Made (Unknown function) = Unit {0}
+
+reading : (f : ℕ) → either (eqb f 3) (eqb f 4) ≡ true → (3 ≤ f) × (f ≤ 4)
+reading f e = go (either-out (eqb f 3) (eqb f 4) e)
+  where
+    go : (eqb f 3 ≡ true) ⊎ (eqb f 4 ≡ true) → (3 ≤ f) × (f ≤ 4)
+    go (inl h) = (omega (arith, eqb-true f 3 h), omega (arith, eqb-true f 3 h))
+    go (inr h) = (omega (arith, eqb-true f 4 h), omega (arith, eqb-true f 4 h))
+
+counted : (n k m : ℕ) → writes n k m ≡ true → (1 ≤ k) × (k ≤ 123)
+unfolding writes
+counted n k m e = let h = both-out (leb 1 k) (leb k 123) (both-out (between 1 123 k) _ e .0) in (leb-true 1 k (h .0), leb-true k 123 (h .1))
+
+asked-made : (n f a k m : ℕ) → Made (asked n f a k m)
+unfolding asked
+asked-made n f a k m =
+    pick-both Made (either (eqb f 3) (eqb f 4)) (λ e. pick-both Made (reads n k) (λ _. reading f e) (λ _. tt))
+    (λ _. pick-both Made (eqb f 6) (λ _. pick-both Made (eqb n 5) (λ _. tt) (λ _. tt))
+    (λ _. pick-both Made (eqb f 16) (λ _. pick-both Made (writes n k m) (λ e. counted n k m e) (λ _. tt)) (λ _. tt)))
+
+pub made : (u : List ℕ) → Made (requestOf u)
+unfolding requestOf
+made u = asked-made (length u) (getD u 0 0) (wordAt u 1) (wordAt u 3) (getD u 5 0)
+
+-- ---- only a read tells, and only a write is written
+abbrev pub Fits : Request → Answer → Type 0
+Fits (Read function first count) (Answers.Written change) = ⊥
+Fits (Read function first count) (Answers.Told row word) = Unit {0}
+Fits (One register word) (Answers.Told row w) = ⊥
+Fits (One register word) (Answers.Written change) = Unit {0}
+Fits (Many first count place) (Answers.Told row w) = ⊥
+Fits (Many first count place) (Answers.Written change) = Unit {0}
+Fits (Malformed function) (Answers.Told row w) = ⊥
+Fits (Malformed function) (Answers.Written change) = ⊥
+Fits (Unknown function) (Answers.Told row w) = ⊥
+Fits (Unknown function) (Answers.Written change) = ⊥
+Fits request Answers.NotOurs = Unit {0}
+Fits request (Answers.Refused refusal) = Unit {0}
+
+-- what a write comes to
+one-fits : (r : Register) (w : ℕ) (x : Permit) → Fits (One r w) (permitted x)
+one-fits r w (Permits.Write change) = tt
+one-fits r w (Permits.Refused refusal) = tt
+
+many-fits : (r : Register) (n : ℕ) (s : Span) (x : Permit) → Fits (Many r n s) (permitted x)
+many-fits r n s (Permits.Write change) = tt
+many-fits r n s (Permits.Refused refusal) = tt
+
+module _ (p : Plant) (sioerr st a : ℕ) (u : List ℕ) where
+  abbrev Does : Request → Task → Type 0
+  Does q t = Fits q (done p sioerr t .answer)
+
+  fits : (q : Request) → Fits q (done p sioerr (taskOf st a q u) .answer)
+  unfolding taskOf done toldServed wroteServed
+  fits (Read f r n) =
+      pick-both (Does (Read f r n)) (not (reachesUs st a)) (λ _. tt)
+      (λ _. pick-both (Does (Read f r n)) (both (toAll a) true) (λ _. tt) (λ _. pick-both (Does (Read f r n)) (isNone (rowOfSpan (r .0) n)) (λ _. tt) (λ _. tt)))
+  fits (One r w) =
+      pick-both (Does (One r w)) (not (reachesUs st a)) (λ _. tt)
+      (λ _. pick-both (Does (One r w)) (both (toAll a) false) (λ _. tt) (λ _. pick-both (Does (One r w)) (isNone (rowOfSpan (r .0) 1)) (λ _. tt) (λ _. one-fits r w (written p (theRow (rowOfSpan (r .0) 1) .0) w .permit))))
+  fits (Many r n s) =
+      pick-both (Does (Many r n s)) (not (reachesUs st a)) (λ _. tt)
+      (λ _. pick-both (Does (Many r n s)) (both (toAll a) false) (λ _. tt) (λ _. pick-both (Does (Many r n s)) (isNone (rowOfSpan (r .0) n)) (λ _. tt) (λ _. many-fits r n s (written p (theRow (rowOfSpan (r .0) n) .0) (longAt u (s .from)) .permit))))
+  fits (Malformed f) =
+      pick-both (Does (Malformed f)) (not (reachesUs st a)) (λ _. tt) (λ _. pick-both (Does (Malformed f)) (both (toAll a) (asksRead (Malformed f))) (λ _. tt) (λ _. tt))
+  fits (Unknown f) = pick-both (Does (Unknown f)) (not (reachesUs st a)) (λ _. tt) (λ _. tt)
+
+  pub served-fits : Fits (requestOf u) (served p sioerr st a u .answer)
+  unfolding served
+  served-fits = fits (requestOf u)
+
+  -- and it comes from our own address
+  abbrev FromUs : Reply → Type 0
+  FromUs Nothing = Unit {0}
+  FromUs (Data x) = a ≡ st
+
+  any-from : a ≡ st → (r : Reply) → FromUs r
+  any-from e Nothing = tt
+  any-from e (Data x) = e
+
+  ours : toAll a ≡ false → not (reachesUs st a) ≡ false → a ≡ st
+  unfolding reachesUs
+  ours n r = go (either-out (toAll a) (eqb a st) (not-false (either (toAll a) (eqb a st)) r))
+    where
+      go : (toAll a ≡ true) ⊎ (eqb a st ≡ true) → a ≡ st
+      go (inl h) = absurd (true≢false (sym h ∙ n))
+      go (inr h) = eqb-true a st h
+
+  abbrev TaskFrom : Task → Type 0
+  TaskFrom t = FromUs (answered (headOf (requestOf u)) (done p sioerr t .answer))
+
+  pick-from : (t : Bool) (x y : Task) → TaskFrom x → (t ≡ false → a ≡ st) → TaskFrom (pick t x y)
+  pick-from t x y d g = pick-both TaskFrom t (λ _. d) (λ e. any-from (g e) (answered (headOf (requestOf u)) (done p sioerr y .answer)))
+
+  refused-from : TaskFrom (Refuse Answers.NotOurs)
+  unfolding done
+  refused-from = tt
+
+  reply-from : FromUs (exchanged p sioerr st a u .reply)
+  unfolding exchanged replied repliedBy served taskOf
+  reply-from = pick-both FromUs (toAll a) (λ _. tt) (λ n. pick-from (not (reachesUs st a)) _ _ refused-from (λ r. ours n r))
+
+  pub from-us : (x : Units.Answer) → exchanged p sioerr st a u .reply ≡ Data x → a ≡ st
+  from-us x e = subst FromUs e reply-from
