@@ -8,6 +8,7 @@ use crate::output::Out;
 use crate::state;
 use card::After;
 use card::Card;
+use drive::Measured;
 
 // The first `n` bytes, or all where there are fewer.
 fn first(bytes: &[u8], n: usize) -> &[u8] {
@@ -162,9 +163,9 @@ fn tell(card: Card, event: Event) -> After {
         Event::End(n) => card.end_cause(n),
         Event::Din1(active) => card.din1(active),
         Event::Parity => card.parity_fault(),
-        Event::Frq(word) => card.set_frq(word),
-        Event::Irms(word) => card.set_rms(word),
-        Event::OpTime(word) => card.set_optime(word),
+        Event::Frq(word) => card.measure(Measured::Frq(word)),
+        Event::Irms(word) => card.measure(Measured::Rms(word)),
+        Event::OpTime(word) => card.measure(Measured::Optime(word)),
     }
 }
 

@@ -8,8 +8,8 @@ use Rattle.base.specs.Choice.{pick, either}
 use Rattle.table.specs.Names.{SioTot}
 use Rattle.drive.specs.declared.plant.Plant.{Plant}
 use Rattle.drive.specs.declared.events.Event.{Event}
-use Rattle.drive.specs.Plant.{withFrq, withRms, withOptime}
-use Rattle.drive.specs.Events.{raised, ended, portFault, withActive}
+use Rattle.drive.specs.declared.events.Measured.{Measured}
+use Rattle.drive.specs.Events.{raised, ended, portFault, withActive, withMeasured}
 use Rattle.card.specs.State.{withSioerr, withPlant, cardSum}
 use Rattle.card.specs.declared.state.Card.{Card}
 use Rattle.card.specs.declared.events.After.{After}
@@ -37,14 +37,8 @@ unfoldable pub din1Set : Bool → Card → After
 din1Set active c = happened (withActive active (c .plant)) c
 
 -- "The host sets FrqAct, I-rms and OpTime freely in their widths"
-unfoldable pub frqSet : ℕ → Card → After
-frqSet w c = happened (withFrq w (c .plant)) c
-
-unfoldable pub rmsSet : ℕ → Card → After
-rmsSet w c = happened (withRms w (c .plant)) c
-
-unfoldable pub optimeSet : ℕ → Card → After
-optimeSet w c = happened (withOptime w (c .plant)) c
+unfoldable pub measuredSet : Measured → Card → After
+measuredSet measured c = happened (withMeasured measured (c .plant)) c
 
 -- "SioErr (ours): bit 0 time-out, bit 1 parity fault told by the host. Either one at MODE 3 also raises flag 14"
 unfoldable pub portFaulted : ℕ → Card → Card

@@ -1,6 +1,6 @@
 -- Document 01's outcome numbers: the column No. (13 and 14 are the master's.) Assumes nothing.
 use Prim.Native.Nat.{ℕ}
-use Rattle.drive.specs.Answer.{answerNumber}
+use Rattle.answers.specs.Answer.{answerNumber}
 use Rattle.card.specs.declared.outcome.Outcome.{Outcome}
 use Rattle.card.specs.declared.outcome.Outcome.the-variants.{Done, Served, ShortBuffer, BadFrame, NoSuchEvent, NothingTaken}
 

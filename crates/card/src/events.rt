@@ -2,10 +2,11 @@
 use crate::outcome::Outcome;
 use crate::state::Card;
 use drive::Event;
+use drive::Measured;
 use drive::Plant;
 use table::names::SIO_TOT;
 ghost use mathlib.Core.Path.{_≡_};
-ghost use Rattle.card.specs.Events.{happened, told, faultRaised, causeEnded, din1Set, frqSet, rmsSet, optimeSet, parityTold, portFaulted, limitOf, counted, ticked};
+ghost use Rattle.card.specs.Events.{happened, told, faultRaised, causeEnded, din1Set, measuredSet, parityTold, portFaulted, limitOf, counted, ticked};
 ghost use Rattle.card.specs.State.{cardSum};
 
 // The card after an event, and the event's outcome.
@@ -39,28 +40,12 @@ impl Card {
         self.happened(plant.set_din1(active))
     }
 
-    // FrqAct, a 16-bit word, is measured.
-    pub fn set_frq(self, word: u16) -> After
-        ensures { λ r. ⌜ r ≡ frqSet word self ⌝ }
+    // FrqAct, I-rms or OpTime is measured.
+    pub fn measure(self, measured: Measured) -> After
+        ensures { λ r. ⌜ r ≡ measuredSet measured self ⌝ }
     {
         let plant = self.plant;
-        self.happened(plant.set_frq(word))
-    }
-
-    // I-rms, a 32-bit word, is measured.
-    pub fn set_rms(self, word: u32) -> After
-        ensures { λ r. ⌜ r ≡ rmsSet word self ⌝ }
-    {
-        let plant = self.plant;
-        self.happened(plant.set_rms(word))
-    }
-
-    // OpTime is measured.
-    pub fn set_optime(self, word: u32) -> After
-        ensures { λ r. ⌜ r ≡ optimeSet word self ⌝ }
-    {
-        let plant = self.plant;
-        self.happened(plant.set_optime(word))
+        self.happened(plant.measure(measured))
     }
 
     // The host tells a parity fault: bit 1 of SioErr, and at MODE 3 flag 14.

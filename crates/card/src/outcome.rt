@@ -1,5 +1,5 @@
 // What a call comes to, and document 01's number for it.
-use drive::Answer;
+use answers::Answer;
 ghost use mathlib.Core.Path.{_≡_};
 ghost use Rattle.card.specs.Outcome.{numberOf};
 

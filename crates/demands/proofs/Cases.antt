@@ -4,7 +4,7 @@ use mathlib.Core.List.{map}
 use Rattle.table.specs.Table.{rows, lineAt, startWords}
 use Rattle.table.specs.Address.{address, firstRegister, registerOf}
 use Rattle.table.specs.Find.{firstRow, rowFrom, rowOfE, rowOfSpan}
-use Rattle.table.specs.Allowed.{twos, numberOf, within, member, belowLimt, aboveMagn, atMode, setpointAllows, allows, allowedAt}
+use Rattle.allowed.specs.Allowed.{twos, numberOf, within, member, belowLimt, aboveMagn, atMode, setpointAllows, allows, allowedAt}
 use Rattle.hex.specs.Hex.{isHex, allHex, digitValue, digitOf, pairValue, hexOf, bytesOf}
 use Rattle.checks.specs.Bcc.{bccOf}
 use Rattle.checks.specs.Lrc.{addsToZero, lrcOf, sumOf, totalOf}
@@ -12,9 +12,9 @@ use Rattle.drive.specs.Plant as Plant
 use Rattle.drive.specs.Flags as Flags
 use Rattle.drive.specs.Faults as Faults
 use Rattle.drive.specs.Events as Plants
-use Rattle.drive.specs.Read as Read
-use Rattle.drive.specs.Refusals as Refusals
-use Rattle.drive.specs.Write as Write
+use Rattle.reading.specs.Read as Read
+use Rattle.permit.specs.Refusals as Refusals
+use Rattle.writing.specs.Write as Write
 use Rattle.service.specs.Serving.{toldServed, wroteServed}
 use Rattle.pending.specs.Held as Held
 use Rattle.pending.specs.Scanning.{scanFrom}

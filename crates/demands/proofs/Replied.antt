@@ -12,10 +12,10 @@ use Rattle.base.proofs.Tests.{pick-both}
 use Rattle.table.specs.Table.{lineAt}
 use Rattle.table.specs.declared.labels.Row.{Row}
 use Rattle.drive.specs.declared.plant.Plant.{Plant}
-use Rattle.drive.specs.declared.answer.Answer.{Answer}
-use Rattle.drive.specs.declared.answer.Answer.the-variants as Answers
-use Rattle.drive.specs.declared.write.Refusal.{Refusal}
-use Rattle.drive.specs.declared.write.Refusal.the-variants as Refusals
+use Rattle.answers.specs.declared.Answer.{Answer}
+use Rattle.answers.specs.declared.Answer.the-variants as Answers
+use Rattle.answers.specs.declared.Refusal.{Refusal}
+use Rattle.answers.specs.declared.Refusal.the-variants as Refusals
 use Rattle.modbus.specs.Request.{requestOf}
 use Rattle.modbus.specs.declared.requests.Request.{Request}
 use Rattle.modbus.specs.declared.requests.Request.the-variants.{Read, One, Many, Malformed, Unknown}
@@ -49,7 +49,7 @@ code Refusals.NoFunction = (omega arith, omega arith)
 
 registers : (f : ℕ) (row : Row) (w : ℕ) → Within 3 4 f → IsAnswer (registersTold f row w)
 unfolding registersTold
-registers f row w h = pick-both IsAnswer (eqb (lineAt (row .0) .0) 2) (λ _. h) (λ _. h)
+registers f row w h = pick-both IsAnswer (eqb (lineAt (row .0) .registers) 2) (λ _. h) (λ _. h)
 
 answered-is : (q : Request) (x : Answer) → Made q → Fits q x → ReplyIs (answered (headOf q) x)
 answered-is q Answers.NotOurs m h = tt

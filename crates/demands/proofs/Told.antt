@@ -13,8 +13,8 @@ use Rattle.hex.specs.Hex.{pairValue}
 use Rattle.hex.specs.declared.Pair.{Pair}
 use Rattle.hex.specs.declared.Pair.the-variants.{Byte, NoByte}
 use Rattle.hex.proofs.RoundTrip.{pair-below}
-use Rattle.drive.specs.declared.answer.Answer.{Answer}
-use Rattle.drive.specs.declared.answer.Answer.the-variants as Answers
+use Rattle.answers.specs.declared.Answer.{Answer}
+use Rattle.answers.specs.declared.Answer.the-variants as Answers
 use Rattle.nfo.specs.Shape.{fits, whole}
 use Rattle.nfo.specs.Message.{ADR, enquiry, select, formed}
 use Rattle.nfo.specs.Parts.{wordIn, valueAt, numberIn, parameterAt, messageOf}

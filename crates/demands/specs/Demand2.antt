@@ -9,8 +9,8 @@ use Prim.Native.Nat.{ℕ, _+_, _-_, _%_, _≤_, _<_}
 use lib.ListN.{length, getD}
 use Rattle.stream.specs.Format.{Format}
 use Rattle.stream.specs.Reading.{Yield, Reads}
-use Rattle.drive.specs.declared.answer.Answer.{Answer}
-use Rattle.drive.specs.declared.answer.Answer.the-variants as Answers
+use Rattle.answers.specs.declared.Answer.{Answer}
+use Rattle.answers.specs.declared.Answer.the-variants as Answers
 use Rattle.nfo.specs.Message.{formed}
 use Rattle.nfo.specs.Parts.{messageOf}
 use Rattle.nfo.specs.declared.message.Message.{Message}

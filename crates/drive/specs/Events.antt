@@ -6,7 +6,9 @@ use lib.Bits.{bitOr, bitAnd}
 use Rattle.base.specs.Choice.{pick, both, either}
 use Rattle.drive.specs.declared.plant.Plant.{Plant}
 use Rattle.drive.specs.declared.events.Event.{Event}
-use Rattle.drive.specs.Plant.{withScmd, withDin1, withCauses}
+use Rattle.drive.specs.declared.events.Measured.{Measured}
+use Rattle.drive.specs.declared.events.Measured.the-variants.{Frq, Rms, Optime}
+use Rattle.drive.specs.Plant.{withScmd, withDin1, withCauses, withFrq, withRms, withOptime}
 use Rattle.drive.specs.Flags.{only, allBut}
 use Rattle.drive.specs.Faults.{flagRaised}
 
@@ -34,3 +36,9 @@ portFault p = pick (eqb (p .mode) 3) (flagRaised (only 14) p) p
 unfoldable pub withActive : Bool → Plant → Plant
 withActive true p = withDin1 1 p
 withActive false p = withScmd 0 (withDin1 0 p)
+
+-- "The host sets FrqAct, I-rms and OpTime freely in their widths"
+unfoldable pub withMeasured : Measured → Plant → Plant
+withMeasured (Frq word) p = withFrq word p
+withMeasured (Rms word) p = withRms word p
+withMeasured (Optime word) p = withOptime word p

@@ -3,8 +3,4 @@ pub mod Flags
 pub mod Faults
 pub mod Events
 pub mod Flagging
-pub mod Read
-pub mod Refusals
-pub mod Write
-pub mod Answer
 pub mod Cases

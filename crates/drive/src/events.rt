@@ -2,13 +2,19 @@
 use crate::faults::FLAG_14;
 use crate::plant::Plant;
 ghost use mathlib.Core.Path.{_≡_};
-ghost use Rattle.drive.specs.Events.{isFault, raised, ended, portFault, withActive};
-ghost use Rattle.drive.specs.Plant.{withFrq, withRms, withOptime};
+ghost use Rattle.drive.specs.Events.{isFault, raised, ended, portFault, withActive, withMeasured};
 
 // The plant after an event that names a fault, and whether there is a fault of that number. Where there is none, nothing changes.
 pub struct Event {
     pub plant: Plant,
     pub known: bool,
+}
+
+// A number that the host measures: FrqAct in 16 bits, I-rms and OpTime in 32.
+pub enum Measured {
+    Frq(u16),
+    Rms(u32),
+    Optime(u32),
 }
 
 // Faults are numbered 1 to 13 and 16 to 23.
@@ -86,27 +92,23 @@ impl Plant {
         self
     }
 
-    // FrqAct is measured anew.
-    pub fn set_frq(mut self, word: u16) -> Plant
-        ensures { λ r. ⌜ r ≡ withFrq word self ⌝ }
+    // A number is measured anew.
+    pub fn measure(mut self, measured: Measured) -> Plant
+        ensures { λ r. ⌜ r ≡ withMeasured measured self ⌝ }
     {
-        self.frq = word as u32;
-        self
-    }
-
-    // I-rms is measured anew.
-    pub fn set_rms(mut self, word: u32) -> Plant
-        ensures { λ r. ⌜ r ≡ withRms word self ⌝ }
-    {
-        self.rms = word;
-        self
-    }
-
-    // OpTime is measured anew.
-    pub fn set_optime(mut self, word: u32) -> Plant
-        ensures { λ r. ⌜ r ≡ withOptime word self ⌝ }
-    {
-        self.optime = word;
-        self
+        match measured {
+            Measured::Frq(word) => {
+                self.frq = word as u32;
+                self
+            }
+            Measured::Rms(word) => {
+                self.rms = word;
+                self
+            }
+            Measured::Optime(word) => {
+                self.optime = word;
+                self
+            }
+        }
     }
 }

@@ -1,29 +1,14 @@
-// What runs, what is flagged, and what Inv St tells.
+// What runs, and flag 14.
 use crate::plant::Plant;
 ghost use mathlib.Core.Path.{_≡_};
-ghost use Rattle.drive.specs.Flags.{lowestOf};
-ghost use Rattle.drive.specs.Faults.{runs, statusOf, only14, stopped};
+ghost use Rattle.drive.specs.Faults.{runs, only14, stopped};
 
 // The mask of flag 14, which a port's time-out or parity fault raises.
-pub(crate) const FLAG_14: u32 = 0x4000;
-
-// The lowest flagged number, or 32 where nothing is flagged.
-fn lowest(flags: u32) -> u32
-    ensures { λ r. ⌜ r ≡ lowestOf flags ⌝ }
-{
-    let mut n: u32 = 0;
-    while n < 32 {
-        if (flags >> n) & 1 == 1 {
-            return n;
-        }
-        n += 1;
-    }
-    32
-}
+pub const FLAG_14: u32 = 0x4000;
 
 impl Plant {
     // Whether the drive runs: at MODE 2 by DIN1 while no flag stands, at MODE 3 by SCMD.
-    pub(crate) fn running(self) -> bool
+    pub fn running(self) -> bool
         ensures { λ r. ⌜ r ≡ runs self ⌝ }
     {
         if self.mode == 2 {
@@ -36,28 +21,6 @@ impl Plant {
             return self.scmd != 0;
         }
         false
-    }
-
-    // Inv St: the lowest flagged number, else the number of the MODE, standing or running.
-    pub(crate) fn status(self) -> u32
-        ensures { λ r. ⌜ r ≡ statusOf self ⌝ }
-    {
-        if self.flags != 0 {
-            return lowest(self.flags);
-        }
-        if self.mode == 2 {
-            if self.running() {
-                return 34;
-            }
-            return 33;
-        }
-        if self.mode == 3 {
-            if self.running() {
-                return 38;
-            }
-            return 37;
-        }
-        24
     }
 
     // Whether 14 is the only flag.

@@ -21,14 +21,39 @@ pub struct Plant {
     pub optime: u32,
 }
 
+// The column Start of rows 301 to 322.
+const START_WORDS: [u32; 22] = [
+    150,
+    400,
+    50,
+    1500,
+    80,
+    100,
+    1000,
+    50,
+    50,
+    0,
+    0,
+    500,
+    0,
+    1,
+    128,
+    0,
+    1,
+    0,
+    1,
+    1,
+    1,
+    0,
+];
+
 impl Plant {
     // A plant at start.
     pub fn start() -> Plant
         ensures { λ r. ⌜ r ≡ started ⌝ }
     {
-        let words = table::start_words();
         Plant {
-            settings: Settings { words },
+            settings: Settings { words: START_WORDS },
             mode: 1,
             scmd: 0,
             din1: 0,

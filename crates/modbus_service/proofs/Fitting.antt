@@ -13,11 +13,11 @@ use Rattle.base.proofs.Tests.{pick-both, both-out, either-out}
 use Rattle.table.specs.Find.{rowOfSpan}
 use Rattle.table.specs.declared.labels.Register.{Register}
 use Rattle.drive.specs.declared.plant.Plant.{Plant}
-use Rattle.drive.specs.declared.answer.Answer.{Answer}
-use Rattle.drive.specs.declared.answer.Answer.the-variants as Answers
-use Rattle.drive.specs.declared.write.Permit.{Permit}
-use Rattle.drive.specs.declared.write.Permit.the-variants as Permits
-use Rattle.drive.specs.Write.{written}
+use Rattle.answers.specs.declared.Answer.{Answer}
+use Rattle.answers.specs.declared.Answer.the-variants as Answers
+use Rattle.permit.specs.declared.Permit.{Permit}
+use Rattle.permit.specs.declared.Permit.the-variants as Permits
+use Rattle.writing.specs.Write.{written}
 use Rattle.service.specs.Serving.{isNone, theRow, permitted, toldServed, wroteServed}
 use Rattle.modbus.specs.Words.{wordAt, longAt}
 use Rattle.modbus.specs.Request.{between, reads, writes, asked, requestOf}

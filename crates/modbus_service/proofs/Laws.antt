@@ -14,12 +14,12 @@ use Rattle.table.specs.declared.labels.Register.{Register}
 use Rattle.table.specs.declared.labels.Found.{Found}
 use Rattle.table.specs.declared.labels.Found.the-variants.{At, NoRow}
 use Rattle.drive.specs.declared.plant.Plant.{Plant}
-use Rattle.drive.specs.declared.answer.Answer.{Answer}
-use Rattle.drive.specs.declared.answer.Answer.the-variants as Answers
-use Rattle.drive.specs.declared.write.Change.{Change}
-use Rattle.drive.specs.declared.write.Refusal.{Refusal}
-use Rattle.drive.specs.declared.write.Refusal.the-variants as Refusals
-use Rattle.drive.specs.Answer.{answerNumber}
+use Rattle.answers.specs.declared.Answer.{Answer}
+use Rattle.answers.specs.declared.Answer.the-variants as Answers
+use Rattle.answers.specs.declared.Change.{Change}
+use Rattle.answers.specs.declared.Refusal.{Refusal}
+use Rattle.answers.specs.declared.Refusal.the-variants as Refusals
+use Rattle.answers.specs.Answer.{answerNumber}
 use Rattle.service.specs.Serving.{keeping, toldServed, wroteServed}
 use Rattle.service.specs.declared.Served.{Served}
 use Rattle.service.proofs.Laws.{wrote-keeps}
@@ -119,13 +119,13 @@ unfolding served
 served-keeps p s st a unit = done-keeps p s (taskOf st a (requestOf unit) unit)
 
 -- ---- the registers of a row
-pub told-long : (f : ℕ) (row : Row) (w n : ℕ) → n ≡ lineAt (row .0) .0 → n ≡ 2 → w < 4294967296 → Long f w ≡ registersTold f row w
+pub told-long : (f : ℕ) (row : Row) (w n : ℕ) → n ≡ lineAt (row .0) .registers → n ≡ 2 → w < 4294967296 → Long f w ≡ registersTold f row w
 unfolding registersTold
-told-long f row w n d h l = simp (eq-eqb (lineAt (row .0) .0) 2 (sym d ∙ h), mod-eq-of-lt l)
+told-long f row w n d h l = simp (eq-eqb (lineAt (row .0) .registers) 2 (sym d ∙ h), mod-eq-of-lt l)
 
-pub told-word : (f : ℕ) (row : Row) (w n : ℕ) → n ≡ lineAt (row .0) .0 → (n ≡ 2 → ⊥) → Word f (w % 65536) ≡ registersTold f row w
+pub told-word : (f : ℕ) (row : Row) (w n : ℕ) → n ≡ lineAt (row .0) .registers → (n ≡ 2 → ⊥) → Word f (w % 65536) ≡ registersTold f row w
 unfolding registersTold
-told-word f row w n d h = simp (ne-eqb (lineAt (row .0) .0) 2 (λ e. h (d ∙ e)))
+told-word f row w n d h = simp (ne-eqb (lineAt (row .0) .registers) 2 (λ e. h (d ∙ e)))
 
 -- ---- the reply to one that is not broadcast
 module _ (a : ℕ) (h : Head) (x : Answer) (one : a ≡ 0 → ⊥) where

@@ -12,10 +12,10 @@ use Rattle.base.proofs.Tests.{both-out, pick-both}
 use Rattle.table.specs.Table.{lineAt}
 use Rattle.table.specs.declared.labels.Row.{Row}
 use Rattle.table.specs.declared.labels.Register.{Register}
-use Rattle.drive.specs.declared.answer.Answer.{Answer}
-use Rattle.drive.specs.declared.answer.Answer.the-variants.{Told, Written, NotOurs, Refused}
-use Rattle.drive.specs.declared.write.Refusal.{Refusal}
-use Rattle.drive.specs.declared.write.Refusal.the-variants as Refusals
+use Rattle.answers.specs.declared.Answer.{Answer}
+use Rattle.answers.specs.declared.Answer.the-variants.{Told, Written, NotOurs, Refused}
+use Rattle.answers.specs.declared.Refusal.{Refusal}
+use Rattle.answers.specs.declared.Refusal.the-variants as Refusals
 use Rattle.modbus.specs.Words.{wordAt, longAt}
 use Rattle.modbus.specs.Request.{between, reads, writes, asked, requestOf}
 use Rattle.modbus.specs.declared.requests.Span.{Span}
@@ -75,7 +75,7 @@ exception-below Refusals.NoFunction = omega arith
 
 registers-in : (f : ℕ) (row : Row) (w : ℕ) → f < 256 → InWidth (registersTold f row w)
 unfolding registersTold
-registers-in f row w h = pick-both InWidth (eqb (lineAt (row .0) .0) 2) (λ _. (h, omega arith)) (λ _. (h, omega arith))
+registers-in f row w h = pick-both InWidth (eqb (lineAt (row .0) .registers) 2) (λ _. (h, omega arith)) (λ _. (h, omega arith))
 
 answered-in : (h : Head) (x : Answer) → HeadIn h → ReplyIn (answered h x)
 answered-in h (Told row w) k = registers-in (h .function) row w (k .0)

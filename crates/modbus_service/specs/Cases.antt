@@ -5,16 +5,17 @@ use Prim.Native.Nat.{ℕ}
 use Rattle.table.specs.Table.{rows, lineAt, startWords}
 use Rattle.table.specs.Address.{address, firstRegister}
 use Rattle.table.specs.Find.{firstRow, rowOfSpan}
-use Rattle.table.specs.Allowed.{twos, within, allows, allowedAt}
+use Rattle.allowed.specs.Allowed.{twos, within, allows, allowedAt}
 use Rattle.drive.specs.declared.plant.Plant.{Plant}
 use Rattle.drive.specs.Plant.{started}
 use Rattle.drive.specs.Flags.{flagged, lowestFrom, lowestOf}
 use Rattle.drive.specs.Faults.{flagStands, statusOf, flagRaised, acknowledged}
 use Rattle.drive.specs.Events.{isFault, raised, ended}
-use Rattle.drive.specs.Answer.{answerNumber}
-use Rattle.drive.specs.Read as Reading
-use Rattle.drive.specs.Refusals.{readOnly, boundsOf, allowed, held, permitted}
-use Rattle.drive.specs.Write.{permitOf, stored, applied, written}
+use Rattle.answers.specs.Answer.{answerNumber}
+use Rattle.reading.specs.Read as Reading
+use Rattle.permit.specs.Refusals.{readOnly, boundsOf, allowed, held, permitted}
+use Rattle.permit.specs.Permit.{permitOf}
+use Rattle.writing.specs.Write.{stored, applied, written}
 use Rattle.service.specs.Serving.{toldServed, wroteServed}
 use Rattle.modbus.specs.Words.{wordAt, longAt}
 use Rattle.modbus.specs.Request.{label, reads, writes, asked, requestOf}

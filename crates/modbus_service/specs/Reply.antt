@@ -7,10 +7,10 @@ use Rattle.table.specs.Table.{lineAt}
 use Rattle.table.specs.declared.labels.Row.{Row}
 use Rattle.table.specs.declared.labels.Register.{Register}
 use Rattle.drive.specs.declared.plant.Plant.{Plant}
-use Rattle.drive.specs.declared.answer.Answer.{Answer}
-use Rattle.drive.specs.declared.answer.Answer.the-variants.{Told, Written, NotOurs, Refused}
-use Rattle.drive.specs.declared.write.Refusal.{Refusal}
-use Rattle.drive.specs.declared.write.Refusal.the-variants as Refusals
+use Rattle.answers.specs.declared.Answer.{Answer}
+use Rattle.answers.specs.declared.Answer.the-variants.{Told, Written, NotOurs, Refused}
+use Rattle.answers.specs.declared.Refusal.{Refusal}
+use Rattle.answers.specs.declared.Refusal.the-variants as Refusals
 use Rattle.modbus.specs.Request.{label, requestOf}
 use Rattle.modbus.specs.declared.requests.Request.{Request}
 use Rattle.modbus.specs.declared.requests.Request.the-variants.{Read, One, Many, Malformed, Unknown}
@@ -35,7 +35,7 @@ exceptionOf Refusals.NoFunction = 0x01
 
 -- "Rows 320, 321, 120 and 39 are 32 bits, two registers": the bits that a row's registers hold
 unfoldable pub registersTold : ℕ → Row → ℕ → Units.Answer
-registersTold function row word = pick (eqb (lineAt (row .0) .0) 2) (Long function (word % 0x100000000)) (Word function (word % 0x10000))
+registersTold function row word = pick (eqb (lineAt (row .0) .registers) 2) (Long function (word % 0x100000000)) (Word function (word % 0x10000))
 
 -- what a reply repeats of its request; only what names registers is told or written
 abbrev pub head : ℕ → Register → ℕ → Head

@@ -11,11 +11,11 @@ use Rattle.table.specs.declared.labels.Row.{Row}
 use Rattle.table.specs.declared.labels.Found.{Found}
 use Rattle.table.specs.declared.labels.Found.the-variants.{NoRow}
 use Rattle.drive.specs.declared.plant.Plant.{Plant}
-use Rattle.drive.specs.declared.answer.Answer.{Answer}
-use Rattle.drive.specs.declared.answer.Answer.the-variants as Answers
-use Rattle.drive.specs.declared.write.Refusal.the-variants as Refusals
-use Rattle.drive.specs.Answer.{answerNumber}
-use Rattle.drive.specs.Refusals.{readLine, writeLines}
+use Rattle.answers.specs.declared.Answer.{Answer}
+use Rattle.answers.specs.declared.Answer.the-variants as Answers
+use Rattle.answers.specs.declared.Refusal.the-variants as Refusals
+use Rattle.answers.specs.Answer.{answerNumber}
+use Rattle.permit.specs.Refusals.{readLine, writeLines}
 use Rattle.service.specs.Serving.{isNone, theRow, keeping, toldServed, wroteServed}
 use Rattle.service.specs.declared.Served.{Served}
 use Rattle.modbus.specs.Words.{longAt}

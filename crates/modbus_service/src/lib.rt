@@ -1,9 +1,9 @@
 // A data unit of Modbus, served by the plant, for RTU and ASCII alike: the order of refusals, what is done, and what is replied.
 //
 // `serve` takes a unit and the address before it; the reply that it hands back is for the writer of the frame or of the message.
-use drive::Answer;
+use answers::Answer;
+use answers::Refusal;
 use drive::Plant;
-use drive::Refusal;
 use modbus::Request;
 use service::Served;
 use table::Found;

@@ -14,16 +14,16 @@ use Rattle.nfo.specs.declared.message.Parameter.{Parameter}
 use Rattle.nfo.specs.declared.message.Value.{Value}
 use Rattle.nfo.specs.declared.message.Value.the-variants.{Word, NotHex}
 use Rattle.drive.specs.declared.plant.Plant.{Plant}
-use Rattle.drive.specs.declared.answer.Answer.the-variants as Answers
-use Rattle.drive.specs.declared.write.Refusal.the-variants as Refusals
+use Rattle.answers.specs.declared.Answer.the-variants as Answers
+use Rattle.answers.specs.declared.Refusal.the-variants as Refusals
 use Rattle.drive.specs.Faults.{stopped}
-use Rattle.drive.specs.Refusals.{readOnly}
+use Rattle.permit.specs.Refusals.{readOnly}
 use Rattle.service.specs.Serving.{keeping, toldServed, wroteServed}
 use Rattle.service.specs.declared.Served.{Served}
 use Rattle.nfo_service.specs.Serve.{toUs, reachesUs, rowNamed, stops, rowSelected, selectServed, enquiryServed}
 use Rattle.nfo_service.specs.Reply.{adrIn, parameterIn, numberOf, repliedBy, replied}
 use Rattle.nfo.specs.declared.message.Message.{Message}
-use Rattle.drive.specs.declared.answer.Answer.{Answer}
+use Rattle.answers.specs.declared.Answer.{Answer}
 
 module _ (p : Plant) (s adr : ℕ) (q : Parameter) (t : Bool) (r : Served) where
   -- ---- an ENQUIRY

@@ -8,8 +8,8 @@ use Rattle.nfo.specs.declared.message.Message.{Message}
 use Rattle.nfo.specs.declared.message.Message.the-variants.{Enquiry, Select}
 use Rattle.nfo.specs.declared.message.Parameter.{Parameter}
 use Rattle.nfo.specs.declared.message.Parameter.the-variants.{Number, NoNumber}
-use Rattle.drive.specs.declared.answer.Answer.{Answer}
-use Rattle.drive.specs.declared.answer.Answer.the-variants.{Told, Written, NotOurs, Refused}
+use Rattle.answers.specs.declared.Answer.{Answer}
+use Rattle.answers.specs.declared.Answer.the-variants.{Told, Written, NotOurs, Refused}
 use Rattle.nfo_service.specs.Serve.{adrOf}
 
 -- ADR and the parameter that a message names

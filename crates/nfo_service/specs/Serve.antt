@@ -19,12 +19,12 @@ use Rattle.nfo.specs.declared.message.Parameter.the-variants.{Number, NoNumber}
 use Rattle.nfo.specs.declared.message.Value.{Value}
 use Rattle.nfo.specs.declared.message.Value.the-variants.{Word, NotHex}
 use Rattle.drive.specs.declared.plant.Plant.{Plant}
-use Rattle.drive.specs.declared.answer.Answer.{Answer}
-use Rattle.drive.specs.declared.answer.Answer.the-variants as Answers
-use Rattle.drive.specs.declared.write.Refusal.the-variants as Refusals
-use Rattle.drive.specs.Answer.{answerNumber}
+use Rattle.answers.specs.declared.Answer.{Answer}
+use Rattle.answers.specs.declared.Answer.the-variants as Answers
+use Rattle.answers.specs.declared.Refusal.the-variants as Refusals
+use Rattle.answers.specs.Answer.{answerNumber}
 use Rattle.drive.specs.Faults.{only14, stopped}
-use Rattle.drive.specs.Refusals.{readOnly, writeLines}
+use Rattle.permit.specs.Refusals.{readOnly, writeLines}
 use Rattle.service.specs.Serving.{isNone, theRow, keeping, toldServed, wroteServed}
 use Rattle.service.specs.declared.Served.{Served}
 

@@ -1,10 +1,10 @@
 // A message of NFO serial, served by the plant: the order of refusals, what is done, and what is replied.
 //
 // `serve` says what a message does and comes to; `write_answer` puts the reply into a lent buffer.
-use drive::Answer;
-use drive::Change;
+use answers::Answer;
+use answers::Change;
+use answers::Refusal;
 use drive::Plant;
-use drive::Refusal;
 use nfo::Message;
 use nfo::Parameter;
 use nfo::Value;
@@ -105,7 +105,7 @@ fn select(plant: Plant, sioerr: u32, adr: u8, parameter: Parameter, value: Value
 fn select_row(plant: Plant, sioerr: u32, adr: u8, row: Row, value: Value) -> Served
     ensures { λ r. ⌜ r ≡ rowSelected plant sioerr adr row value ⌝ }
 {
-    if drive::read_only(row) {
+    if permit::read_only(row) {
         return keep(plant, sioerr, Answer::Refused(Refusal::ReadOnly));
     }
     let Value::Word(word) = value else {

@@ -16,10 +16,10 @@ use Rattle.hex.proofs.RoundTrip.{length-hex}
 use Rattle.pending.specs.Scanning.{scanFrom}
 use Rattle.nfo.specs.Parts.{messageOf}
 use Rattle.nfo.specs.Scan.{feeding}
-use Rattle.drive.specs.Answer.{answerNumber}
-use Rattle.drive.specs.declared.answer.Answer.{Answer}
-use Rattle.drive.specs.declared.answer.Answer.the-variants.{Told, Written, NotOurs, Refused}
-use Rattle.drive.specs.declared.write.Refusal.the-variants.{NoRow, ReadOnly, NotAllowed, FlagStands, Running, NotPermitted, Malformed, NoFunction}
+use Rattle.answers.specs.Answer.{answerNumber}
+use Rattle.answers.specs.declared.Answer.{Answer}
+use Rattle.answers.specs.declared.Answer.the-variants.{Told, Written, NotOurs, Refused}
+use Rattle.answers.specs.declared.Refusal.the-variants.{NoRow, ReadOnly, NotAllowed, FlagStands, Running, NotPermitted, Malformed, NoFunction}
 use Rattle.card.specs.Outcome.{numberOf}
 use Rattle.turn.specs.Turn.{Received, turnOf, waiting}
 use Rattle.nfo_port.specs.Receive.{servedBy, nfoReceived}

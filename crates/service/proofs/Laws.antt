@@ -3,16 +3,17 @@ use mathlib.Core.Path.{_≡_, refl, ap}
 use Prim.Native.Nat.{ℕ}
 use Rattle.table.specs.declared.labels.Row.{Row}
 use Rattle.drive.specs.declared.plant.Plant.{Plant}
-use Rattle.drive.specs.declared.read.Told.{Told}
-use Rattle.drive.specs.declared.answer.Answer.the-variants as Answers
-use Rattle.drive.specs.declared.write.Refusal.{Refusal}
-use Rattle.drive.specs.declared.write.Permit.{Permit}
-use Rattle.drive.specs.declared.write.Permit.the-variants.{Write, Refused}
-use Rattle.drive.specs.declared.write.Change.{Change}
-use Rattle.drive.specs.declared.write.Wrote.{Wrote}
-use Rattle.drive.specs.Answer.{answerNumber}
-use Rattle.drive.specs.Read.{told}
-use Rattle.drive.specs.Write.{permitOf, after, written}
+use Rattle.reading.specs.declared.Told.{Told}
+use Rattle.answers.specs.declared.Answer.the-variants as Answers
+use Rattle.answers.specs.declared.Refusal.{Refusal}
+use Rattle.permit.specs.declared.Permit.{Permit}
+use Rattle.permit.specs.declared.Permit.the-variants.{Write, Refused}
+use Rattle.answers.specs.declared.Change.{Change}
+use Rattle.writing.specs.declared.Wrote.{Wrote}
+use Rattle.answers.specs.Answer.{answerNumber}
+use Rattle.reading.specs.Read.{told}
+use Rattle.permit.specs.Permit.{permitOf}
+use Rattle.writing.specs.Write.{after, written}
 use Rattle.service.specs.Serving.{keeping, telling, toldServed, permitted, wroteServed}
 use Rattle.service.specs.declared.Served.{Served}
 

@@ -5,13 +5,13 @@ use Rattle.table.specs.declared.labels.Row.{Row}
 use Rattle.table.specs.declared.labels.Found.{Found}
 use Rattle.table.specs.declared.labels.Found.the-variants.{At, NoRow}
 use Rattle.drive.specs.declared.plant.Plant.{Plant}
-use Rattle.drive.specs.declared.read.Told.{Told}
-use Rattle.drive.specs.declared.answer.Answer.{Answer}
-use Rattle.drive.specs.declared.answer.Answer.the-variants as Answers
-use Rattle.drive.specs.declared.write.Permit.{Permit}
-use Rattle.drive.specs.declared.write.Permit.the-variants.{Write, Refused}
-use Rattle.drive.specs.Read.{told}
-use Rattle.drive.specs.Write.{written}
+use Rattle.reading.specs.declared.Told.{Told}
+use Rattle.answers.specs.declared.Answer.{Answer}
+use Rattle.answers.specs.declared.Answer.the-variants as Answers
+use Rattle.permit.specs.declared.Permit.{Permit}
+use Rattle.permit.specs.declared.Permit.the-variants.{Write, Refused}
+use Rattle.reading.specs.Read.{told}
+use Rattle.writing.specs.Write.{written}
 use Rattle.service.specs.declared.Served.{Served}
 
 -- ---- the row that a message names

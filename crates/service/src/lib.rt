@@ -1,9 +1,9 @@
 // What serving a message does to the plant, by either protocol, and what it comes to.
 //
 // `keep` changes nothing, `tell` reads a row, `write` writes one where the plant permits it.
-use drive::Answer;
-use drive::Permit;
+use answers::Answer;
 use drive::Plant;
+use permit::Permit;
 use table::Row;
 ghost use mathlib.Core.Path.{_≡_};
 ghost use Rattle.service.specs.Serving.{keeping, toldServed, wroteServed};
@@ -30,7 +30,7 @@ pub fn keep(plant: Plant, sioerr: u32, answer: Answer) -> Served
 pub fn tell(plant: Plant, sioerr: u32, row: Row) -> Served
     ensures { λ r. ⌜ r ≡ toldServed plant sioerr row ⌝ }
 {
-    let told = plant.read(row, sioerr);
+    let told = reading::read(plant, row, sioerr);
     let after = told.plant;
     Served {
         plant: after,
@@ -43,7 +43,7 @@ pub fn tell(plant: Plant, sioerr: u32, row: Row) -> Served
 pub fn write(plant: Plant, sioerr: u32, row: Row, word: u32) -> Served
     ensures { λ r. ⌜ r ≡ wroteServed plant sioerr (row .0) word ⌝ }
 {
-    let wrote = plant.write(row, word);
+    let wrote = writing::write(plant, row, word);
     let permit = wrote.permit;
     let after = wrote.plant;
     match permit {

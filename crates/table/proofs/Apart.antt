@@ -35,7 +35,7 @@ otherPlace (ADI a) (register s) = true
 otherPlace (register r) p = true
 
 abbrev pub end : Entry → ℕ
-end x = firstRegister (x .place) + x .line .0
+end x = firstRegister (x .place) + x .line .registers
 
 -- two rows have different E numbers, different ADI numbers, different first registers and no register in common
 abbrev pub apart : Entry → Entry → Bool

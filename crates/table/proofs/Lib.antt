@@ -1,3 +1,3 @@
 pub mod Apart
 pub mod Lookup
-pub mod Numbers
+pub mod Columns

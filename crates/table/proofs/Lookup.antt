@@ -1,20 +1,16 @@
 -- Searching the table: where no row passes, where two tests pass the same rows, and the row of a span. Assumes nothing.
 use mathlib.Core.Path.{_≡_, refl, sym, ap, _∙_}
 use mathlib.Core.Bool.{Bool, true, false}
-use mathlib.Core.List.{List, [], _∷_, map}
-use Prim.Native.Nat.{ℕ, _+_, _-_, _*_, _/_, _%_, _≤_}
+use mathlib.Core.List.{List, [], _∷_, _++_}
+use Prim.Native.Nat.{ℕ, zero, suc, _+_, _-_, _*_, _/_, _%_, _≤_, _<_}
 use native.Mathlib.Omega.{arith}
 use borrow.Author.Tests.{eq-eqb, ne-eqb, eqb-true, eqb-false, leb-true, ltb-true, ltb-false}
 use lib.Dec.{eqb, leb, ltb}
-use lib.ListN.{List·getD-eq-default}
 use Rattle.base.specs.Choice.{pick, both}
 use Rattle.base.proofs.Tests.{both-out, same-test}
 use Rattle.table.specs.Table.{Parameter, E, no-E, Place, ADI, register, Entry, rows, lineAt}
 use Rattle.table.specs.Address.{address, firstRegister, adiOf}
 use Rattle.table.specs.Find.{firstRow, hasE, hasAdi, rowOfE, rowOfAdi, rowFrom, rowOfSpan}
-use Rattle.table.specs.declared.lines.Allowed.the-variants.{Nothing}
-use Rattle.table.specs.declared.lines.Class.the-variants.{Read}
-use Rattle.table.specs.declared.lines.Start.the-variants.{NoWord}
 use Rattle.table.specs.declared.labels.AdiNumber.{AdiNumber}
 use Rattle.table.specs.declared.labels.Row.{Row}
 use Rattle.table.specs.declared.labels.FirstOf.{FirstOf}
@@ -22,12 +18,7 @@ use Rattle.table.specs.declared.labels.FirstOf.the-variants.{Adi, NoAdi}
 use Rattle.table.specs.declared.labels.Found.{Found}
 use Rattle.table.specs.declared.labels.Found.the-variants.{At, NoRow}
 use Rattle.table.proofs.Apart.{every, pairwise, apart, apart-out, all-apart}
-use Rattle.base.proofs.Arms.{NoneOf, upFrom, past}
-
--- past the table there is no line
-pub past-table : (n : ℕ) → NoneOf n (upFrom 0 30) → (0, Nothing, Read, NoWord) ≡ lineAt n
-unfolding lineAt rows
-past-table n h = sym (List·getD-eq-default (map (λ (x : Entry). x .line) rows) (0, Nothing, Read, NoWord) (past 30 0 n (omega arith) h))
+use Rattle.base.proofs.Arms.{NoneOf, upFrom}
 
 -- ---- a number that is no row's label
 -- the labels of one kind, in the table's order; `add` puts a row's label, if it has one, before the others
@@ -61,9 +52,26 @@ missAdi : (n : ℕ) (p : Place) (ks : List ℕ) → NoneOf n (addAdi p ks) → (
 missAdi n (ADI m) ks h = (ne-eqb m n (λ q. h .0 (sym q)), h .1)
 missAdi n (register r) ks h = (refl, h)
 
-pub no-adi : (n : ℕ) → NoneOf n (labels (λ (x : Entry). addAdi (x .place)) rows) → NoRow ≡ rowOfAdi n
+no-adi : (n : ℕ) → NoneOf n (labels (λ (x : Entry). addAdi (x .place)) rows) → NoRow ≡ rowOfAdi n
 unfolding rowOfAdi
 no-adi n h = none-found (λ n x. hasAdi n (x .place)) (λ x. addAdi (x .place)) (λ n x. missAdi n (x .place)) n rows h
+
+-- a number outside of k numbers from i on is none of them
+outside : (n i k : ℕ) (ks : List ℕ) → ((j : ℕ) → i ≤ j → j < i + k → n ≡ j → ⊥) → NoneOf n ks → NoneOf n (upFrom i k ++ ks)
+outside n i zero ks o h = h
+outside n i (suc k) ks o h = (o i (omega arith) (omega arith), outside n (suc i) k ks (λ j l u. o j (omega arith) (omega arith)) h)
+
+-- the ADI numbers below 301, and 323
+abbrev pub others : List ℕ
+others = 34 ∷ 35 ∷ 38 ∷ 323 ∷ 125 ∷ 120 ∷ 39 ∷ []
+
+pub no-adi-below : (n : ℕ) → n < 301 → NoneOf n others → NoRow ≡ rowOfAdi n
+unfolding rows
+no-adi-below n l h = no-adi n (outside n 301 22 others (λ j a b e. omega arith) h)
+
+pub no-adi-above : (n : ℕ) → 323 ≤ n → NoneOf n others → NoRow ≡ rowOfAdi n
+unfolding rows
+no-adi-above n l h = no-adi n (outside n 301 22 others (λ j a b e. omega arith) h)
 
 -- ---- the address rule, read backwards
 pub adi-some : (r : ℕ) (a : AdiNumber) → adiOf r ≡ Adi a → (1 ≤ a .0) × (r ≡ address (a .0))
@@ -143,7 +151,7 @@ from-none r g n d e = nothing-passes rows ∙ same-rows (λ (p : Place). false) 
 -- ---- the row of a span
 -- each row's line is found again by its name
 abbrev listed : Entry → Bool
-listed x = eqb (lineAt (x .name) .0) (x .line .0)
+listed x = eqb (lineAt (x .name) .registers) (x .line .registers)
 
 all-listed : every listed rows ≡ true
 unfolding rows lineAt
@@ -153,7 +161,7 @@ abbrev begins : ℕ → Entry → Bool
 begins r x = eqb (firstRegister (x .place)) r
 
 abbrev spans : ℕ → ℕ → Entry → Bool
-spans r n x = both (begins r x) (eqb (x .line .0) n)
+spans r n x = both (begins r x) (eqb (x .line .registers) n)
 
 -- a row that is apart from one that begins there does not begin there
 not-there : (r : ℕ) (x y : Entry) → begins r x ≡ true → apart x y ≡ true → begins r y ≡ false
@@ -168,13 +176,13 @@ no-span r n x (y ∷ ys) b e =
 
 -- the row that begins there, where its width is the count
 abbrev fitting : ℕ → Found → Found
-fitting n (At row) = pick (eqb (lineAt (row .0) .0) n) (At row) NoRow
+fitting n (At row) = pick (eqb (lineAt (row .0) .registers) n) (At row) NoRow
 fitting n NoRow = NoRow
 
 span-found : (r n : ℕ) (xs : List Entry) → every listed xs ≡ true → pairwise apart xs ≡ true → firstRow (spans r n) xs ≡ fitting n (firstRow (begins r) xs)
 unfolding firstRow
 span-found r n [] l a = refl
-span-found r n (x ∷ xs) l a = go (begins r x) (eqb (x .line .0) n) refl refl (span-found r n xs (ls .1) (gap .1))
+span-found r n (x ∷ xs) l a = go (begins r x) (eqb (x .line .registers) n) refl refl (span-found r n xs (ls .1) (gap .1))
   where
     ls : (listed x ≡ true) × (every listed xs ≡ true)
     ls = both-out (listed x) (every listed xs) l
@@ -182,10 +190,10 @@ span-found r n (x ∷ xs) l a = go (begins r x) (eqb (x .line .0) n) refl refl (
     gap : (every (apart x) xs ≡ true) × (pairwise apart xs ≡ true)
     gap = both-out (every (apart x) xs) (pairwise apart xs) a
 
-    width : lineAt (x .name) .0 ≡ x .line .0
-    width = eqb-true (lineAt (x .name) .0) (x .line .0) (ls .0)
+    width : lineAt (x .name) .registers ≡ x .line .registers
+    width = eqb-true (lineAt (x .name) .registers) (x .line .registers) (ls .0)
 
-    go : (s t : Bool) → begins r x ≡ s → eqb (x .line .0) n ≡ t → firstRow (spans r n) xs ≡ fitting n (firstRow (begins r) xs)
+    go : (s t : Bool) → begins r x ≡ s → eqb (x .line .registers) n ≡ t → firstRow (spans r n) xs ≡ fitting n (firstRow (begins r) xs)
         → firstRow (spans r n) (x ∷ xs) ≡ fitting n (firstRow (begins r) (x ∷ xs))
     go true true p q ih = simp (p, q, width)
     go true false p q ih = simp (p, q, width) (sym (no-span r n x xs p (gap .0)))
@@ -198,8 +206,8 @@ span-is r n = span-found r n rows all-listed all-apart
 pub span-none : (r n : ℕ) (f : Found) → f ≡ rowFrom r → f ≡ NoRow → NoRow ≡ rowOfSpan r n
 span-none r n f d e = sym (span-is r n ∙ ap (fitting n) (sym d ∙ e))
 
-pub span-fits : (r n w : ℕ) (f : Found) (row : Row) → f ≡ rowFrom r → f ≡ At row → w ≡ lineAt (row .0) .0 → w ≡ n → At row ≡ rowOfSpan r n
-span-fits r n w f row d e q h = sym (span-is r n ∙ ap (fitting n) (sym d ∙ e) ∙ simp (eq-eqb (lineAt (row .0) .0) n (sym q ∙ h)))
+pub span-fits : (r n w : ℕ) (f : Found) (row : Row) → f ≡ rowFrom r → f ≡ At row → w ≡ lineAt (row .0) .registers → w ≡ n → At row ≡ rowOfSpan r n
+span-fits r n w f row d e q h = sym (span-is r n ∙ ap (fitting n) (sym d ∙ e) ∙ simp (eq-eqb (lineAt (row .0) .registers) n (sym q ∙ h)))
 
-pub span-other : (r n w : ℕ) (f : Found) (row : Row) → f ≡ rowFrom r → f ≡ At row → w ≡ lineAt (row .0) .0 → (w ≡ n → ⊥) → NoRow ≡ rowOfSpan r n
-span-other r n w f row d e q h = sym (span-is r n ∙ ap (fitting n) (sym d ∙ e) ∙ simp (ne-eqb (lineAt (row .0) .0) n (λ z. h (q ∙ z))))
+pub span-other : (r n w : ℕ) (f : Found) (row : Row) → f ≡ rowFrom r → f ≡ At row → w ≡ lineAt (row .0) .registers → (w ≡ n → ⊥) → NoRow ≡ rowOfSpan r n
+span-other r n w f row d e q h = sym (span-is r n ∙ ap (fitting n) (sym d ∙ e) ∙ simp (ne-eqb (lineAt (row .0) .registers) n (λ z. h (q ∙ z))))

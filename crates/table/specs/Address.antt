@@ -3,8 +3,6 @@ use Prim.Native.Nat.{ℕ, _+_, _-_, _*_, _/_, _%_}
 use lib.Dec.{ltb, eqb}
 use Rattle.base.specs.Choice.{pick}
 use Rattle.table.specs.Table.{Place, ADI, register}
-use Rattle.table.specs.declared.labels.HoldsAt.{HoldsAt}
-use Rattle.table.specs.declared.labels.HoldsAt.the-variants.{From, Nowhere}
 use Rattle.table.specs.declared.labels.FirstOf.{FirstOf}
 use Rattle.table.specs.declared.labels.FirstOf.the-variants.{Adi, NoAdi}
 
@@ -16,10 +14,6 @@ address n = 528 + 4 * (n - 1)
 unfoldable pub firstRegister : Place → ℕ
 firstRegister (ADI n) = address n
 firstRegister (register r) = r
-
--- the address of an ADI number, where it is a register at all: ADI numbers begin at 1, registers end at FFFFh
-unfoldable pub registerOf : ℕ → HoldsAt
-registerOf n = pick (ltb n 1) Nowhere (pick (ltb 16252 n) Nowhere (From (record { 0 = address n })))
 
 -- the ADI number whose address a register is
 unfoldable pub adiOf : ℕ → FirstOf

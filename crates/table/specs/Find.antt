@@ -36,4 +36,4 @@ rowFrom first = firstRow (λ (r : Entry). eqb (firstRegister (r .place)) first) 
 
 -- "A row's registers are read or written all in one message and only its own: start at its first, count its width"
 unfoldable pub rowOfSpan : ℕ → ℕ → Found
-rowOfSpan first count = firstRow (λ (r : Entry). both (eqb (firstRegister (r .place)) first) (eqb (r .line .0) count)) rows
+rowOfSpan first count = firstRow (λ (r : Entry). both (eqb (firstRegister (r .place)) first) (eqb (r .line .registers) count)) rows

@@ -3,5 +3,4 @@ pub mod Table
 pub mod Address
 pub mod Find
 pub mod Unique
-pub mod Allowed
 pub mod Cases

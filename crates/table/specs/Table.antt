@@ -5,13 +5,10 @@ use Prim.Native.Nat.{ℕ}
 use lib.ListN.{getD, take}
 use lib.IntN.{ℤ, pos, negℤ}
 use Rattle.table.specs.Names.{P-Nom, U-Nom, f-Nom, N-Nom, cosφ, I-magn, I-limt, Accel, Retard, Mode, Fr-Min, Fr-Max, R-fix1, RegAmp, SiBaud, SiProt, SiAdr, SioTot, MbAdr, SpdScl-num, SpdScl-den, Setpoint, MODE, SCMD, Inv-St-ack, Inv-St, SioErr, FrqAct, I-rms, OpTime}
-use Rattle.table.specs.declared.lines.Line.{Line}
 use Rattle.table.specs.declared.lines.Allowed.{Allowed}
 use Rattle.table.specs.declared.lines.Allowed.the-variants.{Between, OneOf, BelowLimt, AboveMagn, ByMode, Nothing}
 use Rattle.table.specs.declared.lines.Class.{Class}
 use Rattle.table.specs.declared.lines.Class.the-variants.{Init, Run, Read}
-use Rattle.table.specs.declared.lines.Start.{Start}
-use Rattle.table.specs.declared.lines.Start.the-variants.{Word, NoWord}
 
 -- ---- the columns
 -- E: an E number, or `-`
@@ -39,17 +36,28 @@ these (a ∷ b ∷ c ∷ []) = OneOf a b c c
 these (a ∷ b ∷ c ∷ d ∷ []) = OneOf a b c d
 these (a ∷ b ∷ c ∷ d ∷ e ∷ more) = Nothing
 
--- a line: its name, its labels, and the rest
+-- Start: a word, or `-`
+pub data Start : Type 0 where
+  Word : ℕ → Start
+  NoWord : Start
+
+-- what a line says of its row: "Rows 320, 321, 120 and 39 are 32 bits, two registers"
+pub record Line : Type 0 where
+  pub registers : ℕ
+  pub allowed : Allowed
+  pub class : Class
+  pub start : Start
+
+-- a line with its name and its labels
 pub record Entry : Type 0 where
   pub name : ℕ
   pub parameter : Parameter
   pub place : Place
   pub line : Line
 
--- "Rows 320, 321, 120 and 39 are 32 bits, two registers": the number after the place counts the registers
 abbrev pub row : ℕ → Parameter → Place → ℕ → Allowed → Class → Start → Entry
 row name e place registers allowed class start =
-    record { name = name; parameter = e; place = place; line = (registers, allowed, class, start) }
+    record { name = name; parameter = e; place = place; line = record { registers = registers; allowed = allowed; class = class; start = start } }
 
 -- |Name|E|ADI|registers|Allowed|Class|Start|
 unfoldable pub rows : List Entry
@@ -91,9 +99,13 @@ pub names : map (λ (r : Entry). r .name) rows ≡ 0 ∷ 1 ∷ 2 ∷ 3 ∷ 4 ∷
 unfolding rows
 names = refl
 
--- the line of a row, its labels left out; past the table, one that has no register and allows nothing
+-- past the table: no register, and nothing is allowed
+abbrev pub noLine : Line
+noLine = record { registers = 0; allowed = Nothing; class = Read; start = NoWord }
+
+-- the line of a row, its labels left out
 unfoldable pub lineAt : ℕ → Line
-lineAt n = getD (map (λ (r : Entry). r .line) rows) n (0, Nothing, Read, NoWord)
+lineAt n = getD (map (λ (r : Entry). r .line) rows) n noLine
 
 abbrev pub word : Start → ℕ
 word (Word w) = w
@@ -101,4 +113,4 @@ word NoWord = 0
 
 -- the start words of rows 301 to 322
 unfoldable pub startWords : List ℕ
-startWords = take 22 (map (λ (r : Entry). word (r .line .3)) rows)
+startWords = take 22 (map (λ (r : Entry). word (r .line .start)) rows)

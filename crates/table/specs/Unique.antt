@@ -15,7 +15,7 @@ passing test (x ∷ xs) = pick (test x) 1 0 + passing test xs
 
 -- the register is one of the row's own
 unfoldable pub covers : ℕ → Entry → Bool
-covers r x = both (leb (firstRegister (x .place)) r) (ltb r (firstRegister (x .place) + x .line .0))
+covers r x = both (leb (firstRegister (x .place)) r) (ltb r (firstRegister (x .place) + x .line .registers))
 
 -- each label is that of one row at most: an E number, an ADI number, a register
 pub record Unique : Type 0 where

@@ -47,34 +47,13 @@ impl ENumber {
 }
 
 impl AdiNumber {
-    // The row with this ADI number.
-    pub fn row(self) -> Found
+    // The row with this ADI number: rows 301 to 322 stand in the order of their numbers.
+    fn row(self) -> Found
         ensures { λ r. ⌜ r ≡ rowOfAdi (self .0) ⌝ }
     {
-        let n = self.0;
+        let n = self.0 as usize;
         match n {
-            301 => Found::At(Row(P_NOM)),
-            302 => Found::At(Row(U_NOM)),
-            303 => Found::At(Row(F_NOM)),
-            304 => Found::At(Row(N_NOM)),
-            305 => Found::At(Row(COS_PHI)),
-            306 => Found::At(Row(I_MAGN)),
-            307 => Found::At(Row(I_LIMT)),
-            308 => Found::At(Row(ACCEL)),
-            309 => Found::At(Row(RETARD)),
-            310 => Found::At(Row(MODE_SETTING)),
-            311 => Found::At(Row(FR_MIN)),
-            312 => Found::At(Row(FR_MAX)),
-            313 => Found::At(Row(R_FIX1)),
-            314 => Found::At(Row(REG_AMP)),
-            315 => Found::At(Row(SI_BAUD)),
-            316 => Found::At(Row(SI_PROT)),
-            317 => Found::At(Row(SI_ADR)),
-            318 => Found::At(Row(SIO_TOT)),
-            319 => Found::At(Row(MB_ADR)),
-            320 => Found::At(Row(SPD_SCL_NUM)),
-            321 => Found::At(Row(SPD_SCL_DEN)),
-            322 => Found::At(Row(SETPOINT)),
+            301..=322 => Found::At(Row(n - 301)),
             34 => Found::At(Row(MODE)),
             35 => Found::At(Row(SCMD)),
             38 => Found::At(Row(INV_ST_ACK)),

@@ -1,6 +1,6 @@
 // The labels of a row, and the address rule.
 ghost use mathlib.Core.Path.{_≡_};
-ghost use Rattle.table.specs.Address.{registerOf, adiOf};
+ghost use Rattle.table.specs.Address.{adiOf};
 
 // The three kinds of label, kept apart: `E00A9`, ADI 317 and register 0700h all mean SiAdr.
 pub struct ENumber(pub u16);
@@ -18,37 +18,15 @@ pub enum Found {
     NoRow,
 }
 
-// Where an ADI number's registers begin. Numbers past the last register have none.
-pub enum HoldsAt {
-    From(Register),
-    Nowhere,
-}
-
 // Which ADI number's registers begin at a register.
-pub enum FirstOf {
+pub(crate) enum FirstOf {
     Adi(AdiNumber),
     NoAdi,
 }
 
-impl AdiNumber {
-    // The address rule: 528 + 4 × (ADI − 1).
-    pub fn register(self) -> HoldsAt
-        ensures { λ r. ⌜ r ≡ registerOf (self .0) ⌝ }
-    {
-        let n = self.0;
-        if n < 1 {
-            return HoldsAt::Nowhere;
-        }
-        if 16252 < n {
-            return HoldsAt::Nowhere;
-        }
-        HoldsAt::From(Register(528 + 4 * (n - 1)))
-    }
-}
-
 impl Register {
-    // The address rule, read backwards.
-    pub fn adi(self) -> FirstOf
+    // The address rule, 528 + 4 × (ADI − 1), read backwards.
+    pub(crate) fn adi(self) -> FirstOf
         ensures { λ r. ⌜ r ≡ adiOf (self .0) ⌝ }
     {
         let r = self.0;

@@ -5,8 +5,8 @@ use lib.ListN.{length}
 use Rattle.pending.specs.declared.Pending.{Pending}
 use Rattle.pending.specs.declared.Scan.{Scan}
 use Rattle.pending.specs.Held.{emptied}
-use Rattle.drive.specs.declared.answer.Answer.{Answer}
-use Rattle.drive.specs.declared.answer.Answer.the-variants.{Told, Written, NotOurs, Refused}
+use Rattle.answers.specs.declared.Answer.{Answer}
+use Rattle.answers.specs.declared.Answer.the-variants.{Told, Written, NotOurs, Refused}
 use Rattle.service.specs.declared.Served.{Served}
 use Rattle.card.specs.State.{withPort, withPending}
 use Rattle.card.specs.declared.state.Card.{Card}

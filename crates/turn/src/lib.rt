@@ -1,9 +1,9 @@
 // What a call on bytes from the line hands back, by any protocol: `Turn`. `short_buffer` and `nothing_taken` are the calls that take no message,
 // `card_after` is the card once one was served.
+use answers::Answer;
 use card::Card;
 use card::Outcome;
 use card::Port;
-use drive::Answer;
 use pending::Pending;
 use pending::Scan;
 use service::Served;

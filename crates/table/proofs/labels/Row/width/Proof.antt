@@ -1,13 +1,17 @@
--- `table::Row::width` meets its contract: a column of the row's line. Assumes nothing.
-use borrow.Author.Needs.{needs}
+-- `table::Row::width` meets its contract: the column is the same along each range of rows, and past the table there is no register. Assumes nothing.
+use mathlib.Core.Path.{ap}
+use Rattle.table.specs.Table.{Line, rows, lineAt}
+use Rattle.table.proofs.Columns.{along, along-0, past-table}
 use Rattle.table.proofs.labels.Row.width.Statement.{statement}
 use Rattle.table.proofs.labels.Row.width.Tie as tie
 
-line-of-requires : tie.Need-line-of-requires
-line-of-requires c κs = search needs
-
-returns : tie.Need-returns
-returns c = cc
-
 pub width-spec : {M : Type 1} → statement M
-width-spec = tie.close (tie.spec line-of-requires returns)
+unfolding lineAt rows
+width-spec =
+    tie.close
+    (tie.spec
+    (λ c. ap (λ (l : Line). l .registers) (past-table _ (c .if4 .left)))
+    (λ c. search (along (λ n. 2) (λ n. lineAt n .registers) 19 2))
+    (λ c. search (along (λ n. 2) (λ n. lineAt n .registers) 28 2))
+    (λ c. search (along-0 (λ n. 1) (λ n. lineAt n .registers) 19))
+    (λ c. search (along (λ n. 1) (λ n. lineAt n .registers) 21 7)))

@@ -1,0 +1,18 @@
+-- `card::Card::measure` meets its contract: the event on the plant, lifted. Assumes nothing.
+use borrow.Author.Needs.{needs}
+use Rattle.card.specs.Events.{measuredSet}
+use Rattle.card.proofs.state.Card.measure.Statement.{statement}
+use Rattle.card.proofs.state.Card.measure.Tie as tie
+
+measure-requires : tie.Need-measure-requires
+measure-requires c κs = search needs
+
+happened-requires : tie.Need-happened-requires
+happened-requires c κs = search needs
+
+returns : tie.Need-returns
+unfolding measuredSet
+returns c = cc
+
+pub measure-spec : {M : Type 1} → statement M
+measure-spec = tie.close (tie.spec measure-requires happened-requires returns)
