@@ -2,7 +2,7 @@
 use mathlib.Core.Path.{_≡_, refl}
 use mathlib.Core.List.{map}
 use Rattle.table.specs.Table.{rows, lineAt, startWords}
-use Rattle.table.specs.Address.{address, firstRegister, registerOf}
+use Rattle.table.specs.Address.{address, firstRegister}
 use Rattle.table.specs.Find.{firstRow, rowFrom, rowOfE, rowOfSpan}
 use Rattle.allowed.specs.Allowed.{twos, numberOf, within, member, belowLimt, aboveMagn, atMode, setpointAllows, allows, allowedAt}
 use Rattle.hex.specs.Hex.{isHex, allHex, digitValue, digitOf, pairValue, hexOf, bytesOf}
@@ -14,6 +14,7 @@ use Rattle.drive.specs.Faults as Faults
 use Rattle.drive.specs.Events as Plants
 use Rattle.reading.specs.Read as Read
 use Rattle.permit.specs.Refusals as Refusals
+use Rattle.permit.specs.Permit as Permit
 use Rattle.writing.specs.Write as Write
 use Rattle.service.specs.Serving.{toldServed, wroteServed}
 use Rattle.pending.specs.Held as Held
@@ -41,5 +42,5 @@ use Rattle.receive.specs.Receive.{received}
 use Rattle.demands.specs.Cases.{heard, Case, cases}
 
 pub cases-hold : map (λ (k : Case). heard 3 (k .card) (k .bytes)) cases ≡ map (λ (k : Case). k .right) cases
-unfolding cases rows lineAt startWords address firstRegister registerOf firstRow rowFrom rowOfE rowOfSpan twos numberOf within member belowLimt aboveMagn atMode setpointAllows allows allowedAt isHex allHex digitValue digitOf pairValue hexOf bytesOf bccOf addsToZero lrcOf sumOf totalOf Plant.started Flags.flagged Flags.lowestFrom Flags.lowestOf Faults.active Faults.flagStands Faults.flagRaised Faults.runs Faults.statusOf Faults.only14 Faults.stopped Plants.isFault Plants.raised Plants.ended Read.wordAt Read.told Refusals.readOnly Refusals.boundsOf Refusals.allowed Refusals.held Refusals.permitted Write.permitOf Write.stored Write.applied Write.written toldServed wroteServed Held.held Held.empty Held.emptied Held.pushed Held.restarted scanFrom enquiry select bccIn Nfo.fitsAt Nfo.stepIn Nfo.stepOf Nfo.again Nfo.ends Nfo.fed valueAt parameterAt messageOf digitsOf bodyOf replyOf ackOf nakOf Serve.toUs Serve.reachesUs Serve.rowNamed Serve.enquiryServed Serve.stops Serve.rowSelected Serve.selectServed Serve.served Reply.repliedBy Reply.replied wordAt wordBytes longBytes asked reads requestOf unitOf Modbus.reachesUs Modbus.taskOf Modbus.done Modbus.served Answers.registersTold Answers.repliedBy Answers.replied Answers.exchanged textOf bytesIn counted right asciiOf Ascii.again Ascii.crFits Ascii.digitFits Ascii.ended Ascii.ends Ascii.fed Ascii.goesOn unitAmong started happened told faultRaised causeEnded waiting cardAfter nfoReceived asciiReceived received
+unfolding cases rows lineAt startWords address firstRegister firstRow rowFrom rowOfE rowOfSpan twos numberOf within member belowLimt aboveMagn atMode setpointAllows allows allowedAt isHex allHex digitValue digitOf pairValue hexOf bytesOf bccOf addsToZero lrcOf sumOf totalOf Plant.started Flags.flagged Flags.lowestFrom Flags.lowestOf Faults.active Faults.flagStands Faults.flagRaised Faults.runs Faults.statusOf Faults.only14 Faults.stopped Plants.isFault Plants.raised Plants.ended Read.wordAt Read.told Refusals.readOnly Refusals.boundsOf Refusals.allowed Refusals.held Refusals.permitted Permit.permitOf Write.stored Write.applied Write.written toldServed wroteServed Held.held Held.empty Held.emptied Held.pushed Held.restarted scanFrom enquiry select bccIn Nfo.fitsAt Nfo.stepIn Nfo.stepOf Nfo.again Nfo.ends Nfo.fed valueAt parameterAt messageOf digitsOf bodyOf replyOf ackOf nakOf Serve.toUs Serve.reachesUs Serve.rowNamed Serve.enquiryServed Serve.stops Serve.rowSelected Serve.selectServed Serve.served Reply.repliedBy Reply.replied wordAt wordBytes longBytes asked reads requestOf unitOf Modbus.reachesUs Modbus.taskOf Modbus.done Modbus.served Answers.registersTold Answers.repliedBy Answers.replied Answers.exchanged textOf bytesIn counted right asciiOf Ascii.again Ascii.crFits Ascii.digitFits Ascii.ended Ascii.ends Ascii.fed Ascii.goesOn unitAmong started happened told faultRaised causeEnded waiting cardAfter nfoReceived asciiReceived received
 cases-hold = refl
