@@ -1,13 +1,16 @@
 // What a line says: a command with its numbers, and beside it the bytes that HEX spells.
 use crate::numbers;
 use crate::numbers::Number;
+use crate::numbers::Short;
+use crate::request;
+use crate::request::Request;
+use crate::spelling;
+use crate::spelling::Bytes;
+use crate::spelling::Spelling;
 use crate::words;
 use card::Protocol;
 
-// The bytes of a HEX, with room for all that a line can hold.
-pub type Bytes = [u8; 1350];
-
-// A command. `Bytes`, `Call` and `RegisterData` tell how many bytes HEX spells, `Call` the buffer's size before that.
+// A command. Where it has a HEX, its last number tells how many bytes that spells; the first of `Call` and `Ask` is the buffer's size.
 pub enum Command {
     Start(Protocol),
     Restart,
@@ -16,6 +19,8 @@ pub enum Command {
     Host(Event),
     State,
     RegisterData(usize),
+    Ask(usize, Request, usize),
+    Hear(Protocol, usize),
     NotACommand,
 }
 
@@ -29,30 +34,6 @@ pub enum Event {
     Frq(u16),
     Irms(u32),
     OpTime(u32),
-}
-
-// How many bytes HEX spells.
-enum Spelling {
-    Bytes(usize),
-    NotHex,
-}
-
-// Puts the bytes that HEX spells at the start of `bytes`. `-` is no bytes at all.
-fn spelt(word: &[u8], bytes: &mut Bytes) -> Spelling {
-    if check::same(word, b"-") {
-        return Spelling::Bytes(0);
-    }
-    let n = hex::decode(word, bytes);
-    if n == 0 {
-        return Spelling::NotHex;
-    }
-    if 1350 < n {
-        return Spelling::NotHex;
-    }
-    if 2 * n != word.len() {
-        return Spelling::NotHex;
-    }
-    Spelling::Bytes(n)
 }
 
 // `restart`, `parity`, `state`
@@ -93,10 +74,10 @@ fn din1(level: &[u8]) -> Command {
 
 // `frq N`, N from -32768 to 32767
 fn frq(number: &[u8]) -> Command {
-    let Number::Word(n) = numbers::between(32768, 32767, number) else {
+    let Short::Word(n) = numbers::between16(32768, 32767, number) else {
         return Command::NotACommand;
     };
-    Command::Host(Event::Frq((n % 65536) as u16))
+    Command::Host(Event::Frq(n))
 }
 
 // `irms N`, N from -2147483648 to 2147483647
@@ -129,7 +110,7 @@ fn counted(name: &[u8], number: &[u8]) -> Command {
 
 // `bytes HEX`
 fn scrap(word: &[u8], bytes: &mut Bytes) -> Command {
-    let Spelling::Bytes(n) = spelt(word, bytes) else {
+    let Spelling::Bytes(n) = spelling::spelt(word, bytes) else {
         return Command::NotACommand;
     };
     Command::Bytes(n)
@@ -137,10 +118,18 @@ fn scrap(word: &[u8], bytes: &mut Bytes) -> Command {
 
 // `regdata HEX`
 fn register_data(word: &[u8], bytes: &mut Bytes) -> Command {
-    let Spelling::Bytes(n) = spelt(word, bytes) else {
+    let Spelling::Bytes(n) = spelling::spelt(word, bytes) else {
         return Command::NotACommand;
     };
     Command::RegisterData(n)
+}
+
+// `nreply HEX`
+fn nfo_reply(word: &[u8], bytes: &mut Bytes) -> Command {
+    let Spelling::Bytes(n) = spelling::spelt(word, bytes) else {
+        return Command::NotACommand;
+    };
+    Command::Hear(Protocol::Nfo, n)
 }
 
 // A name with one word after it.
@@ -150,6 +139,9 @@ fn with_one(name: &[u8], word: &[u8], bytes: &mut Bytes) -> Command {
     }
     if check::same(name, b"regdata") {
         return register_data(word, bytes);
+    }
+    if check::same(name, b"nreply") {
+        return nfo_reply(word, bytes);
     }
     if check::same(name, b"start") {
         return start(word);
@@ -167,17 +159,39 @@ fn with_one(name: &[u8], word: &[u8], bytes: &mut Bytes) -> Command {
 }
 
 // `call B HEX`
-fn with_two(name: &[u8], size: &[u8], word: &[u8], bytes: &mut Bytes) -> Command {
-    if !check::same(name, b"call") {
-        return Command::NotACommand;
-    }
+fn call(size: &[u8], word: &[u8], bytes: &mut Bytes) -> Command {
     let Number::Word(b) = numbers::between(0, u32::MAX, size) else {
         return Command::NotACommand;
     };
-    let Spelling::Bytes(n) = spelt(word, bytes) else {
+    let Spelling::Bytes(n) = spelling::spelt(word, bytes) else {
         return Command::NotACommand;
     };
     Command::Call(b as usize, n)
+}
+
+// `mreply P HEX`
+fn modbus_reply(protocol: &[u8], word: &[u8], bytes: &mut Bytes) -> Command {
+    let Spelling::Bytes(n) = spelling::spelt(word, bytes) else {
+        return Command::NotACommand;
+    };
+    if check::same(protocol, b"rtu") {
+        return Command::Hear(Protocol::Rtu, n);
+    }
+    if check::same(protocol, b"ascii") {
+        return Command::Hear(Protocol::Ascii, n);
+    }
+    Command::NotACommand
+}
+
+// A name with two words after it.
+fn with_two(name: &[u8], first: &[u8], word: &[u8], bytes: &mut Bytes) -> Command {
+    if check::same(name, b"call") {
+        return call(first, word, bytes);
+    }
+    if check::same(name, b"mreply") {
+        return modbus_reply(first, word, bytes);
+    }
+    Command::NotACommand
 }
 
 // The command that the line is. The bytes of its HEX stand at the start of `bytes`.
@@ -191,6 +205,6 @@ pub fn parse(line: &[u8], bytes: &mut Bytes) -> Command {
             words::word(line, 2),
             bytes,
         ),
-        _ => Command::NotACommand,
+        count => request::parse(line, count, bytes),
     }
 }

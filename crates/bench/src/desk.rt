@@ -1,10 +1,12 @@
-// The card on the bench: each command is done, and its answer printed.
+// Each command is done on the card of the bench or by its master, and its answer printed.
+use crate::asking;
 use crate::command;
-use crate::command::Bytes;
 use crate::command::Command;
 use crate::command::Event;
+use crate::hearing;
 use crate::output;
 use crate::output::Out;
+use crate::spelling::Bytes;
 use crate::state;
 use card::After;
 use card::Card;
@@ -16,12 +18,6 @@ fn first(bytes: &[u8], n: usize) -> &[u8] {
         return &bytes[0..n];
     }
     &bytes[0..]
-}
-
-// The answer to what is no command.
-pub fn unknown(out: &mut Out) {
-    let n = output::put(out, 0, b'?');
-    output::end(out, n);
 }
 
 // `OUTCOME`
@@ -82,10 +78,8 @@ fn bytes(out: &mut Out, card: Card, scrap: &[u8]) -> Card {
 // `OUTCOME USED LEN BUFFER`
 fn call_line(out: &mut Out, number: u32, used: usize, len: usize, buffer: &[u8]) {
     let mut n = output::unsigned(out, 0, number as u64);
-    n = output::put(out, n, b' ');
-    n = output::unsigned(out, n, used as u64);
-    n = output::put(out, n, b' ');
-    n = output::unsigned(out, n, len as u64);
+    n = output::spaced(out, n, used as u64);
+    n = output::spaced(out, n, len as u64);
     n = output::put(out, n, b' ');
     n = output::hex(out, n, buffer);
     output::end(out, n);
@@ -106,7 +100,7 @@ fn call(out: &mut Out, card: Card, size: usize, scrap: &[u8]) -> Card {
     if size <= 600 {
         return called(out, card, scrap, &mut buffer[0..size]);
     }
-    unknown(out);
+    output::unknown(out);
     card
 }
 
@@ -200,8 +194,16 @@ fn perform(out: &mut Out, card: Card, command: Command, buffer: &Bytes) -> Card 
             register_data(out, first(buffer, n));
             card
         }
+        Command::Ask(size, request, n) => {
+            asking::ask(out, size, request, first(buffer, n));
+            card
+        }
+        Command::Hear(protocol, n) => {
+            hearing::hear(out, protocol, first(buffer, n));
+            card
+        }
         Command::NotACommand => {
-            unknown(out);
+            output::unknown(out);
             card
         }
     }

@@ -1,9 +1,13 @@
-// The bench: puts a card on the desk. It reads commands on standard input, one a line, and prints their answers; docs/BENCH.md has the language.
+// The bench: puts a card, and a master, on the desk. It reads commands on standard input, one a line, and prints their answers; docs/BENCH.md has the language.
+mod asking;
 mod command;
 mod desk;
+mod hearing;
 mod lines;
 mod numbers;
 mod output;
+mod request;
+mod spelling;
 mod state;
 mod words;
 
@@ -22,7 +26,7 @@ fn turn(out: &mut Out, card: Card, text: &Text, len: usize) -> Card {
     if len <= characters.len() {
         return desk::answer(out, card, &characters[0..len]);
     }
-    desk::unknown(out);
+    output::unknown(out);
     card
 }
 

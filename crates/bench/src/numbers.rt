@@ -14,6 +14,12 @@ pub enum Number {
     Outside,
 }
 
+// The same of 16 bits.
+pub enum Short {
+    Word(u16),
+    Outside,
+}
+
 // One digit more.
 fn grown(size: u64, digit: u8) -> u64 {
     if size < 4294967296 {
@@ -64,4 +70,12 @@ pub fn between(below: u32, most: u32, word: &[u8]) -> Number {
         return Number::Word(size as u32);
     }
     Number::Outside
+}
+
+// The same, for limits of 16 bits.
+pub fn between16(below: u32, most: u32, word: &[u8]) -> Short {
+    let Number::Word(n) = between(below, most, word) else {
+        return Short::Outside;
+    };
+    Short::Word((n % 65536) as u16)
 }

@@ -32,6 +32,12 @@ pub fn unsigned(out: &mut Out, len: usize, number: u64) -> usize {
     put_all(out, len, &digits[..k])
 }
 
+// A space, and a number in decimal.
+pub fn spaced(out: &mut Out, len: usize, number: u64) -> usize {
+    let n = put(out, len, b' ');
+    unsigned(out, n, number)
+}
+
 // A word in two's complement, one of `all` words.
 fn signed(out: &mut Out, len: usize, word: u64, all: u64) -> usize
     requires { ⌜ word ≤ all ⌝ }
@@ -53,6 +59,12 @@ pub fn signed32(out: &mut Out, len: usize, word: u32) -> usize {
     signed(out, len, word as u64, 4294967296)
 }
 
+// A byte in hex.
+pub fn byte(out: &mut Out, len: usize, byte: u8) -> usize {
+    let n = put(out, len, hex::digit_of(byte / 16));
+    put(out, n, hex::digit_of(byte % 16))
+}
+
 // Bytes in hex, `-` for none.
 pub fn hex(out: &mut Out, len: usize, bytes: &[u8]) -> usize {
     if bytes.len() == 0 {
@@ -61,9 +73,7 @@ pub fn hex(out: &mut Out, len: usize, bytes: &[u8]) -> usize {
     let mut n = len;
     let mut i: usize = 0;
     while i < bytes.len() {
-        let byte = bytes[i];
-        n = put(out, n, hex::digit_of(byte / 16));
-        n = put(out, n, hex::digit_of(byte % 16));
+        n = byte(out, n, bytes[i]);
         i += 1;
     }
     n
@@ -76,4 +86,10 @@ pub fn end(out: &mut Out, len: usize) {
     if n <= characters.len() {
         io::write_all(STDOUT_FILENO, &characters[0..n]);
     }
+}
+
+// The answer to what is no command.
+pub fn unknown(out: &mut Out) {
+    let n = put(out, 0, b'?');
+    end(out, n);
 }
