@@ -5,7 +5,7 @@ use mathlib.Core.List.{List}
 use Prim.Native.Nat.{ℕ, _≤_}
 use native.Mathlib.Omega.{arith}
 use borrow.Author.Tests.{le-ltb}
-use lib.ListN.{getD}
+use lib.ListN.{length, getD}
 use Rattle.nfo.proofs.Lawful.{nfo-lawful}
 use Rattle.modbus.proofs.Units as Widths
 use Rattle.modbus.specs.declared.answers.Answer as Units
@@ -40,7 +40,7 @@ use Rattle.demands.proofs.Told.{told-back}
 use Rattle.demands.proofs.Replied.{answers, widths}
 
 -- ---- the requests
-frame-read : (address : ℕ) (ask : Ask) (registers : List ℕ) → sayable address ask registers ≡ true → FrameRead (frame address ask registers)
+frame-read : (address : ℕ) (ask : Ask) (registers : List ℕ) → sayable address ask (length registers) ≡ true → FrameRead (frame address ask registers)
 unfolding Rtu.rtuReceived
 frame-read address ask registers e c p room h =
     by-rtu c (frame address ask registers) room p ∙ simp (le-ltb room 19 h, Frames.asked-holds address ask registers e)

@@ -77,12 +77,12 @@ pub record Requests : Type 0 where
       → Read nfoSerial (enquiryOf address e) × (messageOf (enquiryOf address e) ≡ Enquiry (address + 32) (Number (record { 0 = e })))
   pub select : (address e word : ℕ) → selectable address ≡ true → e < 65536 → word < 65536
       → Read nfoSerial (selectOf address e word) × (messageOf (selectOf address e word) ≡ Select (address + 32) (Number (record { 0 = e })) (Word word))
-  pub rtu : (address : ℕ) (ask : Ask) (registers : List ℕ) → sayable address ask registers ≡ true
+  pub rtu : (address : ℕ) (ask : Ask) (registers : List ℕ) → sayable address ask (length registers) ≡ true
       → FrameRead (frame address ask registers)
       × (addressIn (frame address ask registers) ≡ address)
       × (requestOf (unitIn (frame address ask registers)) ≡ requestSaid ask registers)
       × (registerData (frame address ask registers) ≡ dataSaid ask registers)
-  pub ascii : (address : ℕ) (ask : Ask) (registers : List ℕ) → sayable address ask registers ≡ true → InWidth ask registers
+  pub ascii : (address : ℕ) (ask : Ask) (registers : List ℕ) → sayable address ask (length registers) ≡ true → InWidth ask registers
       → Read modbusAscii (text address ask registers)
       × (getD (bytesIn (text address ask registers)) 0 0 ≡ address)
       × (requestOf (unitAmong (bytesIn (text address ask registers))) ≡ requestSaid ask registers)

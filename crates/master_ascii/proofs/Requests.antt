@@ -17,10 +17,11 @@ use Rattle.ascii.proofs.Texts.{fitting-none, fitting-all}
 use Rattle.master.specs.declared.Sent.{Sent}
 use Rattle.master.specs.declared.Sent.the-variants.{Written, ShortBuffer}
 use Rattle.master.specs.Sent.{sentOf, bytesSent}
-use Rattle.master.proofs.Sends.{short-sent, short-bytes, written-sent, written-bytes}
+use Rattle.master.proofs.Sends.{short-sent, short-bytes, written-sent, written-bytes, said-sent, said-lent}
 use Rattle.master_request.specs.declared.Ask.{Ask}
-use Rattle.master_request.specs.Ask.{sayable, requestUnit}
-use Rattle.master_request.proofs.Bodies.{room, first-within, as-sent, as-lent, array-length, body-taken}
+use Rattle.master_request.specs.declared.Body.{Body}
+use Rattle.master_request.specs.Ask.{sayable, requestUnit, bodyWith, bodySaid}
+use Rattle.master_request.proofs.Made.{said, first-within, array-length, body-taken}
 
 -- ---- the message of the bytes b, put into the text t: `put_text` tells its length, or 0
 module _ (b t : List ℕ) (r : ℕ) (count : r ≡ length (fitting (length t) (textOf b))) where
@@ -50,27 +51,29 @@ module _ (b t : List ℕ) (r : ℕ) (count : r ≡ length (fitting (length t) (t
   pub text-lent : (now : List ℕ) → (r ≡ 0 → ⊥) → now ≡ front (fitting (length t) (textOf b)) t → now ≡ front (bytesSent true (textOf b) (length t)) t
   text-lent now n h = h ∙ ap (λ (m : List ℕ). front m t) (fitting-all (length t) (textOf b) (has-room n) ∙ sym (written-bytes true (textOf b) t refl (has-room n)))
 
--- ---- the body has its end there, in the array f
-module _ (a : ℕ) (ask : Ask) (s : List ℕ) (b : Sent) (sent : b ≡ sentOf (sayable a ask s) (a ∷ requestUnit ask s) 256) (end : ℕ) (e : b ≡ Written end)
-    (f : List ℕ) (lent : f ≡ front (bytesSent (sayable a ask s) (a ∷ requestUnit ask s) 256) room) where
-  pub all-within : (x : ℕ) → end + 1 ≤ length (set f end x)
-  all-within x = omega (arith, length-set f end x, array-length a ask s b sent end e f lent, first-within a ask s b sent end e)
+-- ---- the body, its LRC behind it
+module _ (a : ℕ) (ask : Ask) (s : List ℕ) (b : Body) (made : b ≡ bodyWith (bodySaid a ask s)) (some : b .size ≡ 0 → ⊥) where
+  pub all-within : (x : ℕ) → b .size + 1 ≤ length (set (b .bytes) (b .size) x)
+  all-within x = omega (arith, length-set (b .bytes) (b .size) x, array-length a ask s b made some, first-within a ask s b made some)
 
-  module _ (x : ℕ) (h : x ≡ lrcOf (take (end - 0) f)) where
-    message : textOf (take (end + 1 - 0) (set f end x)) ≡ asciiOf a (requestUnit ask s)
+  module _ (x : ℕ) (h : x ≡ lrcOf (take (b .size - 0) (b .bytes))) where
+    message : textOf (take (b .size + 1 - 0) (set (b .bytes) (b .size) x)) ≡ asciiOf a (requestUnit ask s)
     unfolding asciiOf
     message =
-        let body : take (end - 0) f ≡ a ∷ requestUnit ask s = body-taken a ask s b sent end e f lent in
-        let k : end + 1 - 0 ≡ suc end = omega arith in
-        let n : end ≡ end - 0 = omega arith in
+        let body : take (b .size - 0) (b .bytes) ≡ a ∷ requestUnit ask s = body-taken a ask s b made some in
+        let k : b .size + 1 - 0 ≡ suc (b .size) = omega arith in
+        let n : b .size ≡ b .size - 0 = omega arith in
         ap textOf
-        (ap (λ (i : ℕ). take i (set f end x)) k
-        ∙ take-suc-set f end x (omega (arith, array-length a ask s b sent end e f lent, first-within a ask s b sent end e))
-        ∙ ap₂ (λ (p : List ℕ) (y : ℕ). p ++ y ∷ []) (ap (λ (i : ℕ). take i f) n ∙ body) (h ∙ ap lrcOf body))
+        (ap (λ (i : ℕ). take i (set (b .bytes) (b .size) x)) k
+        ∙ take-suc-set (b .bytes) (b .size) x (omega (arith, array-length a ask s b made some, first-within a ask s b made some))
+        ∙ ap₂ (λ (p : List ℕ) (y : ℕ). p ++ y ∷ []) (ap (λ (i : ℕ). take i (b .bytes)) n ∙ body) (h ∙ ap lrcOf body))
 
-    pub message-sent : (n : ℕ) (r : Sent) → r ≡ sentOf true (textOf (take (end + 1 - 0) (set f end x))) n → r ≡ sentOf (sayable a ask s) (asciiOf a (requestUnit ask s)) n
-    message-sent n r q = as-sent a ask s b sent end e (asciiOf a (requestUnit ask s)) _ n r message q
+    pub message-sent : (n : ℕ) (r : Sent) → r ≡ sentOf true (textOf (take (b .size + 1 - 0) (set (b .bytes) (b .size) x))) n
+        → r ≡ sentOf (sayable a ask (length s)) (asciiOf a (requestUnit ask s)) n
+    message-sent n r q =
+        said-sent (sayable a ask (length s)) (asciiOf a (requestUnit ask s)) [] (said a ask s b made some) n r (q ∙ ap (λ (m : List ℕ). sentOf true m n) message)
 
-    pub message-lent : (n : ℕ) (buf now : List ℕ) → now ≡ front (bytesSent true (textOf (take (end + 1 - 0) (set f end x))) n) buf
-        → now ≡ front (bytesSent (sayable a ask s) (asciiOf a (requestUnit ask s)) n) buf
-    message-lent n buf now q = as-lent a ask s b sent end e (asciiOf a (requestUnit ask s)) _ n buf now message q
+    pub message-lent : (n : ℕ) (buf now : List ℕ) → now ≡ front (bytesSent true (textOf (take (b .size + 1 - 0) (set (b .bytes) (b .size) x))) n) buf
+        → now ≡ front (bytesSent (sayable a ask (length s)) (asciiOf a (requestUnit ask s)) n) buf
+    message-lent n buf now q =
+        said-lent (sayable a ask (length s)) (asciiOf a (requestUnit ask s)) buf (said a ask s b made some) n now (q ∙ ap (λ (m : List ℕ). front (bytesSent true m n) buf) message)

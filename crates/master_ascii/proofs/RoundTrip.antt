@@ -30,7 +30,7 @@ use Rattle.master_reply.proofs.Sizes.{answer-some, reply-some, reply-most, repl
 use Rattle.master_ascii.specs.Heard.{asciiHeard}
 
 -- ---- the card reads what was asked
-module _ (a : ℕ) (ask : Ask) (s : List ℕ) (e : sayable a ask s ≡ true) (widths : said.InWidth ask s) where
+module _ (a : ℕ) (ask : Ask) (s : List ℕ) (e : sayable a ask (length s) ≡ true) (widths : said.InWidth ask s) where
   below : Bytes (a ∷ requestUnit ask s)
   below = said-below a ask s e widths
 

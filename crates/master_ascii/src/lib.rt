@@ -4,7 +4,7 @@ use master_reply::Heard;
 use master_reply::Reply;
 use master_reply::read_unit;
 use master_request::Ask;
-use master_request::put_request;
+use master_request::body_of;
 ghost use mathlib.Core.Path.{_≡_};
 ghost use mathlib.Core.Bool.{true};
 ghost use mathlib.Core.List.{[]};
@@ -32,20 +32,18 @@ fn send_text(bytes: &[u8], out: &mut [u8]) -> Sent
 // Puts the message of what is asked at the start of `out`: 13 where it cannot be said, then 10 where it does not fit. `registers` are the register bytes of
 // a `Many`, high byte first.
 pub fn write_request(address: u8, ask: Ask, registers: &[u8], out: &mut [u8]) -> Sent
-    ensures sent { λ r. ⌜ r ≡ sentOf (sayable address ask (now (registers .entry))) (asciiOf address (requestUnit ask (now (registers .entry)))) (length (now (out .entry))) ⌝ }
-    ensures lent { λ _. ⌜ now (out .exit) ≡ front (bytesSent (sayable address ask (now (registers .entry))) (asciiOf address (requestUnit ask (now (registers .entry)))) (length (now (out .entry)))) (now (out .entry)) ⌝ }
+    ensures sent { λ r. ⌜ r ≡ sentOf (sayable address ask (length (now (registers .entry)))) (asciiOf address (requestUnit ask (now (registers .entry)))) (length (now (out .entry))) ⌝ }
+    ensures lent { λ _. ⌜ now (out .exit) ≡ front (bytesSent (sayable address ask (length (now (registers .entry)))) (asciiOf address (requestUnit ask (now (registers .entry)))) (length (now (out .entry)))) (now (out .entry)) ⌝ }
 {
-    let mut bytes = [0u8; 256];
-    let body = put_request(address, ask, registers, &mut bytes);
-    match body {
-        Sent::Written(end) => {
-            bytes[end] = checks::lrc(&bytes[0..end]);
-            let all = end + 1;
-            send_text(&bytes[0..all], out)
-        }
-        Sent::CannotBeSaid => Sent::CannotBeSaid,
-        Sent::ShortBuffer => Sent::ShortBuffer,
+    let body = body_of(address, ask, registers);
+    let end = body.size;
+    if end == 0 {
+        return Sent::CannotBeSaid;
     }
+    let mut bytes = body.bytes;
+    bytes[end] = checks::lrc(&bytes[0..end]);
+    let all = end + 1;
+    send_text(&bytes[0..all], out)
 }
 
 // No reply.

@@ -17,7 +17,8 @@ use Rattle.master_reply.specs.declared.Reply.the-variants.{Data, One, Ma
 use Rattle.master_reply.specs.Reply.{readCount, tellsData, tellsOne, tellsMany, tellsException, told, replyOf, registersOf, wordsFrom, heard, heardOf}
 use Rattle.master_reply.specs.Told.{wordsBytes, addressOf, replyUnit, Within, IsReply, replyTo, wordsTold, IsAnswer}
 use Rattle.master_reply.proofs.Units.{reply-read}
-use Rattle.master_reply.proofs.Words.{word-own, shift-words, bytes-length, words-again}
+use Rattle.modbus.proofs.Laws.{word-own}
+use Rattle.master_reply.proofs.Words.{shift-words, bytes-length, words-again}
 
 -- ---- what each kind of unit tells
 module _ (a : ℕ) where

@@ -6,12 +6,9 @@ use native.Mathlib.Omega.{arith}
 use lib.ListN.{length, getD}
 use Rattle.base.specs.Bytes.{AllBelow, Bytes}
 use Rattle.modbus.specs.Words.{wordBytes, wordAt}
+use Rattle.modbus.proofs.Laws.{word-own}
 use Rattle.master_reply.specs.Reply.{wordsFrom}
 use Rattle.master_reply.specs.Told.{wordsBytes}
-
--- a word is that of its bytes
-pub word-own : (w : ℕ) → 256 * (w / 256) + w % 256 ≡ w
-word-own w = omega arith
 
 -- two bytes are those of their word
 pub bytes-own : (h l : ℕ) → l < 256 → wordBytes (256 * h + l) ≡ h ∷ l ∷ []

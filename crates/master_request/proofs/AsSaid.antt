@@ -2,51 +2,25 @@
 use mathlib.Core.Path.{_≡_, refl, sym, ap, ap₂, _∙_}
 use mathlib.Core.Bool.{true}
 use mathlib.Core.List.{List, [], _∷_, _++_}
-use Prim.Native.Nat.{ℕ, suc, _+_, _-_, _*_, _/_, _%_, _≤_, _<_}
+use Prim.Native.Nat.{ℕ, suc, _+_, _-_, _*_, _/_, _≤_, _<_}
 use native.Mathlib.Omega.{arith}
-use borrow.Author.Tests.{leb-true, le-leb, eq-eqb}
-use lib.Dec.{leb}
+use borrow.Author.Tests.{le-leb, eq-eqb}
 use lib.ListN.{length, take, drop}
 use lib.Seq.{take-all}
 use Rattle.base.specs.Bytes.{AllBelow, Bytes}
-use Rattle.base.proofs.Tests.{both-out, both-in}
+use Rattle.base.proofs.Tests.{both-in}
 use Rattle.table.specs.declared.labels.Register.{Register}
 use Rattle.modbus.specs.Words.{wordBytes, wordAt}
-use Rattle.modbus.specs.Request.{between, span, reads, writes, asked, requestOf}
+use Rattle.modbus.specs.Request.{span, reads, writes, asked, requestOf}
 use Rattle.modbus.specs.declared.requests.Request.the-variants as request
-use Rattle.modbus.proofs.Laws.{asked-read, asked-one, asked-many}
+use Rattle.modbus.proofs.Laws.{word-own, asked-read, asked-one, asked-many}
 use Rattle.master_request.specs.declared.Ask.{Ask}
 use Rattle.master_request.specs.declared.Ask.the-variants.{Holding, Input, One, Many}
-use Rattle.master_request.specs.Ask.{readSayable, oneSayable, manySayable, headOf, manyUnit, sayable, requestUnit}
+use Rattle.master_request.specs.Ask.{readSayable, manySayable, headOf, manyUnit, sayable, requestUnit}
 use Rattle.master_request.specs.Said.{requestSaid, InWidth}
-use Rattle.master_request.proofs.Puts.{many-out}
-
--- ---- what can be said
-pub record ReadSayable (a n : ℕ) : Type 0 where
-  pub first : 1 ≤ a
-  pub last : a ≤ 247
-  pub some : 1 ≤ n
-  pub most : n ≤ 125
-
-read-out : (a n : ℕ) → readSayable a n ≡ true → ReadSayable a n
-unfolding readSayable
-read-out a n e =
-    let h = both-out (between 1 247 a) (between 1 125 n) e in
-    let k = both-out (leb 1 a) (leb a 247) (h .0) in
-    let l = both-out (leb 1 n) (leb n 125) (h .1) in
-    record { first = leb-true 1 a (k .0); last = leb-true a 247 (k .1); some = leb-true 1 n (l .0); most = leb-true n 125 (l .1) }
-
-pub said-address : (a : ℕ) (ask : Ask) (s : List ℕ) → sayable a ask s ≡ true → a ≤ 247
-unfolding sayable oneSayable
-said-address a (Holding r n) s e = read-out a n e .last
-said-address a (Input r n) s e = read-out a n e .last
-said-address a (One r w) s e = leb-true a 247 e
-said-address a (Many r) s e = many-out a (length s) e .low
+use Rattle.master_request.proofs.Limits.{read-out, many-out, said-address}
 
 -- ---- what is read of a unit's first five bytes, and of a 16
-word-own : (w : ℕ) → 256 * (w / 256) + w % 256 ≡ w
-word-own w = omega arith
-
 head-read : (f : ℕ) (r : Register) (n : ℕ) → requestOf (headOf f r n) ≡ asked 5 f (r .0) n 0
 unfolding requestOf headOf wordBytes wordAt
 head-read f r n = ap₂ (λ (x y : ℕ). asked 5 f x y 0) (word-own (r .0)) (word-own n)
@@ -69,7 +43,7 @@ writes-said a n e =
     let twice : n ≡ 2 * (n / 2) = omega (arith, h .whole) in
     both-in (both-in (le-leb 1 (n / 2) (h .some)) (le-leb (n / 2) 123 (h .most))) (both-in (eq-eqb n (2 * (n / 2)) twice) (eq-eqb (6 + n) (6 + 2 * (n / 2)) (ap (λ (x : ℕ). 6 + x) twice)))
 
-pub said-read : (a : ℕ) (ask : Ask) (s : List ℕ) → sayable a ask s ≡ true → requestOf (requestUnit ask s) ≡ requestSaid ask s
+pub said-read : (a : ℕ) (ask : Ask) (s : List ℕ) → sayable a ask (length s) ≡ true → requestOf (requestUnit ask s) ≡ requestSaid ask s
 unfolding sayable requestUnit
 said-read a (Holding r n) s e = head-read 3 r n ∙ sym (asked-read 5 3 (r .0) n 0 (omega arith) (omega arith) true (sym (reads-said a n e)) refl)
 said-read a (Input r n) s e = head-read 4 r n ∙ sym (asked-read 5 4 (r .0) n 0 (omega arith) (omega arith) true (sym (reads-said a n e)) refl)
@@ -93,7 +67,7 @@ said-some (Input r n) s = omega arith
 said-some (One r w) s = omega arith
 said-some (Many r) s = omega arith
 
-pub said-most : (a : ℕ) (ask : Ask) (s : List ℕ) → sayable a ask s ≡ true → length (requestUnit ask s) ≤ 252
+pub said-most : (a : ℕ) (ask : Ask) (s : List ℕ) → sayable a ask (length s) ≡ true → length (requestUnit ask s) ≤ 252
 unfolding sayable requestUnit manyUnit headOf wordBytes
 said-most a (Holding r n) s e = omega arith
 said-most a (Input r n) s e = omega arith
@@ -104,11 +78,11 @@ head-below : (f : ℕ) (r : Register) (n : ℕ) (s : List ℕ) → f < 256 → r
 unfolding headOf wordBytes AllBelow
 head-below f r n s h i j k = (h, (omega arith, (omega arith, (omega arith, (omega arith, k)))))
 
-pub said-below : (a : ℕ) (ask : Ask) (s : List ℕ) → sayable a ask s ≡ true → InWidth ask s → Bytes (a ∷ requestUnit ask s)
+pub said-below : (a : ℕ) (ask : Ask) (s : List ℕ) → sayable a ask (length s) ≡ true → InWidth ask s → Bytes (a ∷ requestUnit ask s)
 unfolding sayable requestUnit manyUnit headOf wordBytes AllBelow
-said-below a (Holding r n) s e h = (omega (arith, said-address a (Holding r n) s e), head-below 3 r n [] (omega arith) (h .0) (h .1) tt)
-said-below a (Input r n) s e h = (omega (arith, said-address a (Input r n) s e), head-below 4 r n [] (omega arith) (h .0) (h .1) tt)
-said-below a (One r w) s e h = (omega (arith, said-address a (One r w) s e), head-below 6 r w [] (omega arith) (h .0) (h .1) tt)
+said-below a (Holding r n) s e h = (omega (arith, said-address a (Holding r n) (length s) e), head-below 3 r n [] (omega arith) (h .0) (h .1) tt)
+said-below a (Input r n) s e h = (omega (arith, said-address a (Input r n) (length s) e), head-below 4 r n [] (omega arith) (h .0) (h .1) tt)
+said-below a (One r w) s e h = (omega (arith, said-address a (One r w) (length s) e), head-below 6 r w [] (omega arith) (h .0) (h .1) tt)
 said-below a (Many r) s e h =
     let k = many-out a (length s) e in
-    (omega (arith, k .low), head-below 16 r (length s / 2) (length s ∷ s) (omega arith) (h .0) (omega (arith, k .most)) (omega (arith, k .most), h .1))
+    (omega (arith, k .last), head-below 16 r (length s / 2) (length s ∷ s) (omega arith) (h .0) (omega (arith, k .most)) (omega (arith, k .most), h .1))

@@ -1,98 +1,81 @@
--- What `put_request` tells and stores in an array of 256 bytes, where a request that can be said has room, and what comes of it as a message. Assumes nothing.
-use mathlib.Core.Logic.{_⊎_, inl, inr}
-use mathlib.Core.Path.{_≡_, refl, sym, ap, ap₂, _∙_}
-use mathlib.Core.Bool.{Bool, true, false}
-use mathlib.Core.List.{List, [], _∷_}
-use Prim.Native.Nat.{ℕ, _+_, _-_, _≤_, _<_}
+-- What the code stores of a request: six bytes, or seven and the register bytes behind them. Assumes nothing.
+use mathlib.Core.Path.{_≡_, refl, sym, ap, _∙_}
+use mathlib.Core.Bool.{Bool, true, false, not}
+use mathlib.Core.List.{List, [], _∷_, _++_}
+use Prim.Native.Nat.{ℕ, _+_, _-_, _/_, _%_, _≤_}
+use native.Mathlib.Nat.{zero-add}
 use native.Mathlib.Omega.{arith}
-use mir.Syntax.{w64}
-use mir.Val.{Fits}
-use lib.ListN.{length, take, replicate}
-use lib.Seq.{sets, length-sets}
+use borrow.Author.Tests.{not-false}
+use borrow.Rule.Slice.PartMut.{midOf, putMid}
+use lib.ListN.{length, take, drop, length-append, length-take, length-drop, replicate}
+use lib.Seq.{sets, take-length}
 use Rattle.base.specs.Buffers.{front}
-use Rattle.base.proofs.Sets.{take-sets, sets-front}
-use Rattle.master.specs.declared.Sent.{Sent}
-use Rattle.master.specs.declared.Sent.the-variants.{Written, CannotBeSaid, ShortBuffer}
-use Rattle.master.specs.Sent.{sentOf, bytesSent}
-use Rattle.master.proofs.Sends.{cannot-sent, cannot-lent, written-sent, written-bytes, said-sent, said-lent}
+use Rattle.base.proofs.Sets.{sets-append, sets-rest, sets-front, length-front}
+use Rattle.table.specs.declared.labels.Register.{Register}
+use Rattle.modbus.specs.Words.{wordBytes}
+use Rattle.master_request.specs.declared.Body.{Body}
 use Rattle.master_request.specs.declared.Ask.{Ask}
-use Rattle.master_request.specs.Ask.{sayable, requestUnit}
-use Rattle.master_request.proofs.AsSaid.{said-most}
+use Rattle.master_request.specs.declared.Ask.the-variants.{Many}
+use Rattle.master_request.specs.Ask.{headOf, manyUnit, sayable, requestUnit, bodyWith, bodySaid}
+use Rattle.master_request.proofs.Limits.{many-out}
 
--- the array, before
+-- ---- the array, before, and the bytes m in it
 abbrev pub room : List ℕ
 room = replicate 256 0
 
-module _ (a : ℕ) (ask : Ask) (s : List ℕ) (b : Sent) (sent : b ≡ sentOf (sayable a ask s) (a ∷ requestUnit ask s) 256) where
-  fits : sayable a ask s ≡ true → length (a ∷ requestUnit ask s) ≤ 253
-  fits e = omega (arith, said-most a ask s e)
+body-is : (m b : List ℕ) (n : ℕ) → b ≡ front m room → n ≡ length m → _≡_ {A = Body} (record { bytes = b; size = n }) (bodyWith m)
+body-is m b n e h = rw (e, h)
 
-  by-said : ((sayable a ask s ≡ true) × (b ≡ Written (length (a ∷ requestUnit ask s)))) ⊎ ((sayable a ask s ≡ false) × (b ≡ CannotBeSaid))
-  by-said = go (sayable a ask s) refl
-    where
-      go : (t : Bool) → sayable a ask s ≡ t → ((sayable a ask s ≡ true) × (b ≡ Written (length (a ∷ requestUnit ask s)))) ⊎ ((sayable a ask s ≡ false) × (b ≡ CannotBeSaid))
-      go true e =
-          inl (e, sent ∙ sym (written-sent (sayable a ask s) (a ∷ requestUnit ask s) room e (omega (arith, fits e)) (length (a ∷ requestUnit ask s)) refl))
-      go false e = inr (e, sent ∙ sym (cannot-sent (sayable a ask s) (a ∷ requestUnit ask s) room e))
+-- ---- six bytes
+pub short-made : (a f r n : ℕ) (b : List ℕ) (k : ℕ) → b ≡ a ∷ f ∷ r / 256 ∷ r % 256 ∷ n / 256 ∷ n % 256 ∷ drop 6 room → k ≡ 6
+    → _≡_ {A = Body} (record { bytes = b; size = k }) (bodyWith (a ∷ f ∷ wordBytes r ++ wordBytes n))
+unfolding front wordBytes
+short-made a f r n b k e h = body-is (a ∷ f ∷ wordBytes r ++ wordBytes n) b k e h
 
-  -- ---- 13, whatever the message would be
-  cannot : b ≡ CannotBeSaid → sayable a ask s ≡ false
-  cannot e = elim by-said [ inl h ↦ (let q = h .1 in let z : _≡_ {A = ℕ} 0 1 = cc in absurd (omega arith)) | inr h ↦ h .0 ]
+-- ---- bytes in front, then bytes through the part behind them, which was lent and came back as l
+behind : (h b x l : List ℕ) (k : ℕ) → length h + k ≡ 256 → length b ≤ k → x ≡ front h room → l ≡ take (length b) b ++ drop (length b) (midOf (length h) k x)
+    → putMid (length h) k x l ≡ front (h ++ b) room
+unfolding front
+behind h b x l k whole fits first e =
+    let all : length x ≡ 256 = ap length first ∙ length-front h room (omega arith) in
+    let rest : k ≡ length x - length h = omega arith in
+    let mid : List ℕ = midOf (length h) k x in
+    let part : length b ≤ length (midOf (length h) k x) = omega (arith, all, length-take k (drop (length h) x), length-drop (length h) x) in
+    let is : l ≡ front b mid = e ∙ ap (λ (t : List ℕ). t ++ drop (length b) mid) (take-length b) in
+    ap (putMid (length h) k x) (is ∙ sym (sets-front b mid part))
+    ∙ ap (λ (n : ℕ). putMid (length h) n x (sets (midOf (length h) n x) 0 b)) rest
+    ∙ sets-rest (length h) x b (omega (arith, all))
+    ∙ (λ i. sets ((first ∙ sym (sets-front h room (omega arith))) i) (sym (zero-add (length h)) i) b)
+    ∙ sym (sets-append h b room 0)
+    ∙ sets-front (h ++ b) room (omega (arith, length-append h b))
 
-  pub unsaid : (m buf : List ℕ) → b ≡ CannotBeSaid → CannotBeSaid ≡ sentOf (sayable a ask s) m (length buf)
-  unsaid m buf e = cannot-sent (sayable a ask s) m buf (cannot e)
+pub long-made : (a : ℕ) (r : Register) (s x l : List ℕ) → length s ≤ 246
+    → x ≡ a ∷ 16 ∷ r .0 / 256 ∷ r .0 % 256 ∷ length s / 2 / 256 ∷ length s / 2 % 256 ∷ length s ∷ drop 7 room
+    → l ≡ take (length s) s ++ drop (length s) (midOf 7 249 x)
+    → _≡_ {A = Body} (record { bytes = putMid 7 249 x l; size = length s + 7 }) (bodyWith (a ∷ manyUnit r s))
+unfolding front manyUnit headOf wordBytes
+long-made a r s x l few first e =
+    let seven : List ℕ = a ∷ 16 ∷ r .0 / 256 ∷ r .0 % 256 ∷ length s / 2 / 256 ∷ length s / 2 % 256 ∷ length s ∷ [] in
+    body-is (a ∷ manyUnit r s) (putMid 7 249 x l) (length s + 7) (behind seven s x l 249 refl (omega arith) first e) (omega arith)
 
-  pub unsaid-lent : (m buf : List ℕ) → b ≡ CannotBeSaid → buf ≡ front (bytesSent (sayable a ask s) m (length buf)) buf
-  unsaid-lent m buf e = cannot-lent (sayable a ask s) m buf (cannot e)
+-- ---- what was asked
+module _ (a : ℕ) (ask : Ask) (s : List ℕ) where
+  pub unsaid-body : sayable a ask (length s) ≡ false → _≡_ {A = Body} (record { bytes = room; size = 0 }) (bodyWith (bodySaid a ask s))
+  unfolding bodySaid front
+  unsaid-body h = rw h
 
-  -- ---- the array is never too short
-  has-room : b ≡ ShortBuffer → ⊥
-  has-room e = elim by-said [ inl h ↦ (let q = h .1 in let z : _≡_ {A = ℕ} 0 1 = cc in omega arith) | inr h ↦ (let q = h .1 in let z : _≡_ {A = ℕ} 0 1 = cc in omega arith) ]
+  -- the arm of the case k
+  pub said-body : (k : Ask) (b : Body) → sayable a ask (length s) ≡ true → ask ≡ k → b ≡ bodyWith (a ∷ requestUnit k s) → b ≡ bodyWith (bodySaid a ask s)
+  unfolding bodySaid
+  said-body k b h e q = rw (h, e) q
 
-  pub never-short : (x y : Sent) → b ≡ ShortBuffer → x ≡ y
-  never-short x y e = absurd (has-room e)
+-- a 16 that can be said has no more than 246 register bytes
+pub long-few : (a : ℕ) (ask : Ask) (r : Register) (n : ℕ) (t : Bool) → t ≡ sayable a ask n → not t ≡ false → ask ≡ Many r → n ≤ 246
+unfolding sayable
+long-few a ask r n t h g e =
+    let k = many-out a n (rw e at (sym h ∙ not-false t g)) in
+    omega (arith, k .most, k .whole)
 
-  pub never-short-lent : (x y : List ℕ) → b ≡ ShortBuffer → x ≡ y
-  never-short-lent x y e = absurd (has-room e)
-
-  -- ---- the body has its end there, and is stored in the array, which is now f
-  module _ (end : ℕ) (e : b ≡ Written end) where
-    said : sayable a ask s ≡ true
-    said = elim by-said [ inl h ↦ h .0 | inr h ↦ (let q = h .1 in let z : _≡_ {A = ℕ} 0 1 = cc in absurd (omega arith)) ]
-
-    pub body-end : end ≡ length (a ∷ requestUnit ask s)
-    body-end = elim by-said [ inl h ↦ (let q = h .1 in cc) | inr h ↦ (let q = h .1 in let z : _≡_ {A = ℕ} 0 1 = cc in absurd (omega arith)) ]
-
-    -- there is room behind it
-    pub first-within : end < 256
-    first-within = omega (arith, body-end, fits said)
-
-    pub second-within : end + 1 < 256
-    second-within = omega (arith, body-end, fits said)
-
-    pub end-fits : (k : ℕ) → k ≤ 2 → Fits w64 (end + k)
-    end-fits k h = omega (arith, first-within)
-
-    -- what is sent as the message x, which is m
-    pub as-sent : (m x : List ℕ) (n : ℕ) (r : Sent) → x ≡ m → r ≡ sentOf true x n → r ≡ sentOf (sayable a ask s) m n
-    as-sent m x n r is q = said-sent (sayable a ask s) m [] said n r (q ∙ ap (λ (y : List ℕ). sentOf true y n) is)
-
-    pub as-lent : (m x : List ℕ) (n : ℕ) (buf now : List ℕ) → x ≡ m → now ≡ front (bytesSent true x n) buf → now ≡ front (bytesSent (sayable a ask s) m n) buf
-    as-lent m x n buf now is q = said-lent (sayable a ask s) m buf said n now (q ∙ ap (λ (y : List ℕ). front (bytesSent true y n) buf) is)
-
-    module _ (f : List ℕ) (lent : f ≡ front (bytesSent (sayable a ask s) (a ∷ requestUnit ask s) 256) room) where
-      pub body-stored : f ≡ sets room 0 (a ∷ requestUnit ask s)
-      body-stored =
-          let few : length (a ∷ requestUnit ask s) ≤ 256 = omega (arith, fits said) in
-          lent ∙ ap (λ (m : List ℕ). front m room) (written-bytes (sayable a ask s) (a ∷ requestUnit ask s) room said few) ∙ sym (sets-front (a ∷ requestUnit ask s) room few)
-
-      pub array-length : length f ≡ 256
-      array-length = ap length body-stored ∙ length-sets room 0 (a ∷ requestUnit ask s)
-
-      pub end-within : end ≤ length f
-      end-within = omega (arith, array-length, first-within)
-
-      pub body-taken : take (end - 0) f ≡ a ∷ requestUnit ask s
-      body-taken =
-          let n : end - 0 ≡ length (a ∷ requestUnit ask s) = omega (arith, body-end) in
-          ap₂ take n body-stored ∙ take-sets (a ∷ requestUnit ask s) room (omega (arith, fits said))
+-- what was told of the case k is told of what is asked
+pub sayable-case : (a n : ℕ) (ask k : Ask) (t : Bool) → ask ≡ k → t ≡ sayable a k n → t ≡ sayable a ask n
+sayable-case a n ask k t e h = rw e h

@@ -1,3 +1,4 @@
-pub mod Puts
-pub mod AsSaid
+pub mod Limits
 pub mod Bodies
+pub mod AsSaid
+pub mod Made

@@ -1,13 +1,15 @@
 -- What a Modbus master asks: what of it can be said, and its data unit, byte by byte. Assumes nothing.
 use mathlib.Core.Bool.{Bool}
-use mathlib.Core.List.{List, _∷_, _++_}
+use mathlib.Core.List.{List, [], _∷_, _++_}
 use Prim.Native.Nat.{ℕ, _/_, _%_}
 use lib.Dec.{leb, eqb}
-use lib.ListN.{length}
-use Rattle.base.specs.Choice.{both}
+use lib.ListN.{length, replicate}
+use Rattle.base.specs.Choice.{pick, both}
+use Rattle.base.specs.Buffers.{front}
 use Rattle.table.specs.declared.labels.Register.{Register}
 use Rattle.modbus.specs.Words.{wordBytes}
 use Rattle.modbus.specs.Request.{between}
+use Rattle.master_request.specs.declared.Body.{Body}
 use Rattle.master_request.specs.declared.Ask.{Ask}
 use Rattle.master_request.specs.declared.Ask.the-variants.{Holding, Input, One, Many}
 
@@ -15,18 +17,15 @@ use Rattle.master_request.specs.declared.Ask.the-variants.{Holding, Inpu
 unfoldable pub readSayable : (address count : ℕ) → Bool
 readSayable address count = both (between 1 247 address) (between 1 125 count)
 
-unfoldable pub oneSayable : (address : ℕ) → Bool
-oneSayable address = leb address 247
-
 -- "1 to 123 to write", by the number of register bytes: where that is odd, they are no registers
 unfoldable pub manySayable : (address bytes : ℕ) → Bool
 manySayable address bytes = both (leb address 247) (both (eqb (bytes % 2) 0) (between 1 123 (bytes / 2)))
 
-unfoldable pub sayable : ℕ → Ask → List ℕ → Bool
-sayable address (Holding first count) registers = readSayable address count
-sayable address (Input first count) registers = readSayable address count
-sayable address (One register word) registers = oneSayable address
-sayable address (Many first) registers = manySayable address (length registers)
+unfoldable pub sayable : ℕ → Ask → ℕ → Bool
+sayable address (Holding first count) bytes = readSayable address count
+sayable address (Input first count) bytes = readSayable address count
+sayable address (One register word) bytes = leb address 247
+sayable address (Many first) bytes = manySayable address bytes
 
 -- 03, 04 and 06:  function, register, count or word
 unfoldable pub headOf : ℕ → Register → ℕ → List ℕ
@@ -42,3 +41,11 @@ requestUnit (Holding first count) registers = headOf 3 first count
 requestUnit (Input first count) registers = headOf 4 first count
 requestUnit (One register word) registers = headOf 6 register word
 requestUnit (Many first) registers = manyUnit first registers
+
+-- the address and the data unit; none where it cannot be said
+unfoldable pub bodySaid : ℕ → Ask → List ℕ → List ℕ
+bodySaid address ask registers = pick (sayable address ask (length registers)) (address ∷ requestUnit ask registers) []
+
+-- bytes in an array, 0 past them
+abbrev pub bodyWith : List ℕ → Body
+bodyWith bytes = record { bytes = front bytes (replicate 256 0); size = length bytes }

@@ -1,16 +1,13 @@
-// The requests of a Modbus master: what can be asked, and `put_request`, which writes its address and data unit. RTU and ASCII put their checks around these.
-use master::Sent;
-use master::send;
+// The requests of a Modbus master: what can be asked, and `body_of`, which makes the address and the data unit of it. RTU and ASCII put their checks around
+// these.
 use table::Register;
 ghost use mathlib.Core.Path.{_≡_};
-ghost use mathlib.Core.Bool.{true};
 ghost use mathlib.Core.List.{_∷_};
+ghost use Prim.Native.Nat.{_≤_};
 ghost use lib.ListN.{length};
-ghost use Rattle.base.specs.Buffers.{front};
-ghost use Rattle.master.specs.Sent.{sentOf, bytesSent};
-ghost use Rattle.master_request.specs.Ask.{readSayable, oneSayable, manySayable, headOf, manyUnit, sayable, requestUnit};
+ghost use Rattle.master_request.specs.Ask.{readSayable, manySayable, sayable, headOf, manyUnit, bodyWith, bodySaid};
 
-// What a master asks. The register bytes of a `Many` are handed over beside it; the others have none.
+// What a master asks. The register bytes of a `Many`, high byte first, are handed over beside it; the others have none.
 pub enum Ask {
     // 03: the first register, the count
     Holding(Register, u16),
@@ -20,6 +17,12 @@ pub enum Ask {
     One(Register, u16),
     // 16: the first register
     Many(Register),
+}
+
+// The bytes of a message before its check: so many, and past them 0.
+pub struct Body {
+    pub bytes: [u8; 256],
+    pub size: usize,
 }
 
 // Whether a read of `count` registers can be said.
@@ -54,13 +57,24 @@ fn many_sayable(address: u8, bytes: usize) -> bool
     bytes / 2 <= 123
 }
 
-// Puts the address, the function, the register and a number, the whole of a 03, 04 or 06.
-fn put_head(address: u8, function: u8, register: Register, number: u16, out: &mut [u8]) -> Sent
-    ensures sent { λ r. ⌜ r ≡ sentOf true (address ∷ headOf function register number) (length (now (out .entry))) ⌝ }
-    ensures lent { λ _. ⌜ now (out .exit) ≡ front (bytesSent true (address ∷ headOf function register number) (length (now (out .entry)))) (now (out .entry)) ⌝ }
+// Whether it can be said, with so many register bytes beside it.
+fn sayable(address: u8, ask: Ask, bytes: usize) -> bool
+    ensures { λ r. ⌜ r ≡ sayable address ask bytes ⌝ }
+{
+    match ask {
+        Ask::Holding(_, count) => read_sayable(address, count),
+        Ask::Input(_, count) => read_sayable(address, count),
+        Ask::One(_, _) => address <= 247,
+        Ask::Many(_) => many_sayable(address, bytes),
+    }
+}
+
+// The address and the unit of a 03, 04 or 06.
+fn short_body(address: u8, function: u8, register: Register, number: u16) -> Body
+    ensures { λ r. ⌜ r ≡ bodyWith (address ∷ headOf function register number) ⌝ }
 {
     let at = register.0;
-    let body = [
+    let head = [
         address,
         function,
         (at / 256) as u8,
@@ -68,44 +82,18 @@ fn put_head(address: u8, function: u8, register: Register, number: u16, out: &mu
         (number / 256) as u8,
         (number % 256) as u8,
     ];
-    send(&body, out)
+    let mut bytes = [0u8; 256];
+    let size = bytes::copy(&head, &mut bytes);
+    Body { bytes, size }
 }
 
-// Puts a 03 or 04.
-fn put_read(address: u8, function: u8, first: Register, count: u16, out: &mut [u8]) -> Sent
-    ensures sent { λ r. ⌜ r ≡ sentOf (readSayable address count) (address ∷ headOf function first count) (length (now (out .entry))) ⌝ }
-    ensures lent { λ _. ⌜ now (out .exit) ≡ front (bytesSent (readSayable address count) (address ∷ headOf function first count) (length (now (out .entry)))) (now (out .entry)) ⌝ }
+// The address and the unit of a 16.
+fn long_body(address: u8, first: Register, registers: &[u8]) -> Body
+    requires { ⌜ length (now registers) ≤ 246 ⌝ }
+    ensures { λ r. ⌜ r ≡ bodyWith (address ∷ manyUnit first (now (registers .entry))) ⌝ }
 {
-    if !read_sayable(address, count) {
-        return Sent::CannotBeSaid;
-    }
-    put_head(address, function, first, count, out)
-}
-
-// Puts a 06.
-fn put_one(address: u8, register: Register, word: u16, out: &mut [u8]) -> Sent
-    ensures sent { λ r. ⌜ r ≡ sentOf (oneSayable address) (address ∷ headOf 6 register word) (length (now (out .entry))) ⌝ }
-    ensures lent { λ _. ⌜ now (out .exit) ≡ front (bytesSent (oneSayable address) (address ∷ headOf 6 register word) (length (now (out .entry)))) (now (out .entry)) ⌝ }
-{
-    if 247 < address {
-        return Sent::CannotBeSaid;
-    }
-    put_head(address, 6, register, word, out)
-}
-
-// Puts a 16.
-fn put_many(address: u8, first: Register, registers: &[u8], out: &mut [u8]) -> Sent
-    ensures sent { λ r. ⌜ r ≡ sentOf (manySayable address (length (now (registers .entry)))) (address ∷ manyUnit first (now (registers .entry))) (length (now (out .entry))) ⌝ }
-    ensures lent { λ _. ⌜ now (out .exit) ≡ front (bytesSent (manySayable address (length (now (registers .entry)))) (address ∷ manyUnit first (now (registers .entry))) (length (now (out .entry)))) (now (out .entry)) ⌝ }
-{
-    let n = registers.len();
-    if !many_sayable(address, n) {
-        return Sent::CannotBeSaid;
-    }
-    if out.len() < n + 7 {
-        return Sent::ShortBuffer;
-    }
     let at = first.0;
+    let n = registers.len();
     let count = n / 2;
     let head = [
         address,
@@ -116,21 +104,26 @@ fn put_many(address: u8, first: Register, registers: &[u8], out: &mut [u8]) -> S
         (count % 256) as u8,
         n as u8,
     ];
-    bytes::copy(&head, out);
-    bytes::copy(registers, &mut out[7..]);
-    Sent::Written(n + 7)
+    let mut bytes = [0u8; 256];
+    bytes::copy(&head, &mut bytes);
+    bytes::copy(registers, &mut bytes[7..]);
+    Body { bytes, size: n + 7 }
 }
 
-// Puts the address and the data unit of what is asked at the start of `out`: 13 where it cannot be said, then 10 where it does not fit. `registers` are the
-// register bytes of a `Many`, high byte first.
-pub fn put_request(address: u8, ask: Ask, registers: &[u8], out: &mut [u8]) -> Sent
-    ensures sent { λ r. ⌜ r ≡ sentOf (sayable address ask (now (registers .entry))) (address ∷ requestUnit ask (now (registers .entry))) (length (now (out .entry))) ⌝ }
-    ensures lent { λ _. ⌜ now (out .exit) ≡ front (bytesSent (sayable address ask (now (registers .entry))) (address ∷ requestUnit ask (now (registers .entry))) (length (now (out .entry)))) (now (out .entry)) ⌝ }
+// The address and the data unit of what is asked; no bytes where it cannot be said.
+pub fn body_of(address: u8, ask: Ask, registers: &[u8]) -> Body
+    ensures { λ r. ⌜ r ≡ bodyWith (bodySaid address ask (now (registers .entry))) ⌝ }
 {
+    if !sayable(address, ask, registers.len()) {
+        return Body {
+            bytes: [0u8; 256],
+            size: 0,
+        };
+    }
     match ask {
-        Ask::Holding(first, count) => put_read(address, 3, first, count, out),
-        Ask::Input(first, count) => put_read(address, 4, first, count, out),
-        Ask::One(register, word) => put_one(address, register, word, out),
-        Ask::Many(first) => put_many(address, first, registers, out),
+        Ask::Holding(first, count) => short_body(address, 3, first, count),
+        Ask::Input(first, count) => short_body(address, 4, first, count),
+        Ask::One(register, word) => short_body(address, 6, register, word),
+        Ask::Many(first) => long_body(address, first, registers),
     }
 }

@@ -23,7 +23,7 @@ use Rattle.master_request.specs.declared.Ask.{Ask}
 use Rattle.master_request.specs.declared.Ask.the-variants.{Holding, Input, One, Many}
 use Rattle.master_request.specs.Ask.{headOf, manyUnit, sayable, requestUnit}
 use Rattle.master_request.specs.Said.{requestSaid, dataSaid}
-use Rattle.master_request.proofs.Puts.{many-out}
+use Rattle.master_request.proofs.Limits.{many-out}
 use Rattle.master_request.proofs.AsSaid.{said-read, said-some, said-most}
 use Rattle.master_reply.specs.declared.Heard.{Heard}
 use Rattle.master_reply.specs.declared.Reply.{Reply}
@@ -35,7 +35,7 @@ use Rattle.master_reply.proofs.Sizes.{answer-some, reply-some, reply-most}
 use Rattle.master_rtu.specs.Heard.{rtuHeard}
 
 -- ---- the card reads what was asked
-module _ (a : ℕ) (ask : Ask) (s : List ℕ) (said : sayable a ask s ≡ true) where
+module _ (a : ℕ) (ask : Ask) (s : List ℕ) (said : sayable a ask (length s) ≡ true) where
   pub asked-holds : frameHolds (rtuOf a (requestUnit ask s)) ≡ true
   asked-holds = own-frame a (requestUnit ask s) (said-some ask s) (omega (arith, said-most a ask s said))
 
@@ -47,7 +47,7 @@ module _ (a : ℕ) (ask : Ask) (s : List ℕ) (said : sayable a ask s ≡ true) 
   asked-span = rw (asked-holds, asked-request)
 
 -- the register data is that of what was asked
-pub asked-data : (a : ℕ) (ask : Ask) (s : List ℕ) → sayable a ask s ≡ true → registerData (rtuOf a (requestUnit ask s)) ≡ dataSaid ask s
+pub asked-data : (a : ℕ) (ask : Ask) (s : List ℕ) → sayable a ask (length s) ≡ true → registerData (rtuOf a (requestUnit ask s)) ≡ dataSaid ask s
 unfolding rtuOf requestUnit manyUnit headOf wordBytes sayable
 asked-data a (Holding r n) s e = asked-span a (Holding r n) s e
 asked-data a (Input r n) s e = asked-span a (Input r n) s e

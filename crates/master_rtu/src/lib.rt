@@ -5,7 +5,7 @@ use master_reply::Heard;
 use master_reply::Reply;
 use master_reply::read_unit;
 use master_request::Ask;
-use master_request::put_request;
+use master_request::body_of;
 ghost use mathlib.Core.Path.{_≡_};
 ghost use lib.ListN.{length};
 ghost use Rattle.base.specs.Buffers.{front};
@@ -17,22 +17,20 @@ ghost use Rattle.master_rtu.specs.Heard.{rtuHeard};
 // Puts the frame of what is asked at the start of `out`: 13 where it cannot be said, then 10 where it does not fit. `registers` are the register bytes of
 // a `Many`, high byte first.
 pub fn write_request(address: u8, ask: Ask, registers: &[u8], out: &mut [u8]) -> Sent
-    ensures sent { λ r. ⌜ r ≡ sentOf (sayable address ask (now (registers .entry))) (rtuOf address (requestUnit ask (now (registers .entry)))) (length (now (out .entry))) ⌝ }
-    ensures lent { λ _. ⌜ now (out .exit) ≡ front (bytesSent (sayable address ask (now (registers .entry))) (rtuOf address (requestUnit ask (now (registers .entry)))) (length (now (out .entry)))) (now (out .entry)) ⌝ }
+    ensures sent { λ r. ⌜ r ≡ sentOf (sayable address ask (length (now (registers .entry)))) (rtuOf address (requestUnit ask (now (registers .entry)))) (length (now (out .entry))) ⌝ }
+    ensures lent { λ _. ⌜ now (out .exit) ≡ front (bytesSent (sayable address ask (length (now (registers .entry)))) (rtuOf address (requestUnit ask (now (registers .entry)))) (length (now (out .entry)))) (now (out .entry)) ⌝ }
 {
-    let mut frame = [0u8; 256];
-    let body = put_request(address, ask, registers, &mut frame);
-    match body {
-        Sent::Written(end) => {
-            let crc = checks::crc(&frame[0..end]);
-            frame[end] = (crc % 256) as u8;
-            frame[end + 1] = (crc / 256) as u8;
-            let all = end + 2;
-            send(&frame[0..all], out)
-        }
-        Sent::CannotBeSaid => Sent::CannotBeSaid,
-        Sent::ShortBuffer => Sent::ShortBuffer,
+    let body = body_of(address, ask, registers);
+    let end = body.size;
+    if end == 0 {
+        return Sent::CannotBeSaid;
     }
+    let mut frame = body.bytes;
+    let crc = checks::crc(&frame[0..end]);
+    frame[end] = (crc % 256) as u8;
+    frame[end + 1] = (crc / 256) as u8;
+    let all = end + 2;
+    send(&frame[0..all], out)
 }
 
 // What a frame answers: one of the replies with its numbers, or that it is none; and the words that a read brought.

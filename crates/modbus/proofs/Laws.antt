@@ -2,7 +2,7 @@
 use mathlib.Core.Path.{_≡_, refl, sym, _∙_}
 use mathlib.Core.Bool.{Bool, true, false}
 use mathlib.Core.List.{List}
-use Prim.Native.Nat.{ℕ, _+_, _*_, _≤_, _<_}
+use Prim.Native.Nat.{ℕ, _+_, _*_, _/_, _%_, _≤_, _<_}
 use native.Mathlib.Omega.{arith}
 use lib.ListN.{length, getD, List·getD-eq-default}
 use borrow.Author.Tests.{eq-eqb, ne-eqb, eqb-false}
@@ -21,6 +21,10 @@ word-past s i h = let g : length s ≤ i + 1 = omega arith in simp (List·getD-e
 pub word-read : (s : List ℕ) (i high low : ℕ) → high ≡ getD s i 0 → low ≡ getD s (i + 1) 0 → 256 * high + low ≡ wordAt s i
 unfolding wordAt
 word-read s i high low p q = cc
+
+-- a word is that of its bytes
+pub word-own : (w : ℕ) → 256 * (w / 256) + w % 256 ≡ w
+word-own w = omega arith
 
 pub long-past : (s : List ℕ) (i : ℕ) → length s ≤ i → 0 ≡ longAt s i
 unfolding longAt

@@ -1,10 +1,14 @@
--- `master_ascii::write_request` meets its contract: `put_request` stored the address and the unit in the array, so the LRC is that of these, and the message
--- of all is sent. A request that can be said has room in the array. Assumes nothing.
+-- `master_ascii::write_request` meets its contract: `body_of` made the address and the unit, or nothing where the request cannot be said; their LRC goes
+-- behind them, and the message of all is sent. Assumes nothing.
 use borrow.Author.Needs.{needs}
-use Rattle.master_request.proofs.Bodies.{unsaid, unsaid-lent, never-short, never-short-lent, first-within, end-fits, end-within}
+use Rattle.master.proofs.Sends.{cannot-sent, cannot-lent}
+use Rattle.master_request.proofs.Made.{unsaid, first-within, end-fits, end-within}
 use Rattle.master_ascii.proofs.Requests.{all-within, message-sent, message-lent}
 use Rattle.master_ascii.proofs.write_request.Statement.{statement}
 use Rattle.master_ascii.proofs.write_request.Tie as tie
+
+returns : tie.Need-returns
+returns c = search (cannot-sent, cannot-lent, unsaid)
 
 part-lrc-end : tie.Need-part-lrc-end
 part-lrc-end c = search end-within
@@ -18,22 +22,15 @@ add-all c = search (end-fits, needs)
 part-send-text-end : tie.Need-part-send-text-end
 part-send-text-end c = search all-within
 
-returns : tie.Need-returns
-returns c = search (message-sent, message-lent)
-
 returns-2 : tie.Need-returns-2
-returns-2 c = search (unsaid, unsaid-lent)
-
-returns-3 : tie.Need-returns-3
-returns-3 c = search (never-short, never-short-lent)
+returns-2 c = search (message-sent, message-lent)
 
 pub write-request-spec : {M : Type 1} → statement M
 write-request-spec =
     tie.close
     (tie.spec
-    (λ c. search needs)
     (λ c κs. search needs)
-    (λ c. search needs)
+    returns
     (λ c. search needs)
     (λ c. search needs)
     part-lrc-end
@@ -45,8 +42,4 @@ write-request-spec =
     part-send-text-end
     (λ c κs. search needs)
     (λ c. search needs)
-    (λ c. search needs)
-    (λ c. search needs)
-    returns
-    returns-2
-    returns-3)
+    returns-2)

@@ -1,10 +1,14 @@
--- `master_rtu::write_request` meets its contract: `put_request` stored the address and the unit in the array, so the CRC is that of these, and the frame is
--- sent. A request that can be said has room in the array. Assumes nothing.
+-- `master_rtu::write_request` meets its contract: `body_of` made the address and the unit, or nothing where the request cannot be said; their CRC goes behind
+-- them, and that frame is sent. Assumes nothing.
 use borrow.Author.Needs.{needs}
-use Rattle.master_request.proofs.Bodies.{unsaid, unsaid-lent, never-short, never-short-lent, first-within, second-within, end-fits, end-within}
+use Rattle.master.proofs.Sends.{cannot-sent, cannot-lent}
+use Rattle.master_request.proofs.Made.{unsaid, first-within, second-within, end-fits, end-within}
 use Rattle.master_rtu.proofs.Requests.{all-within, frame-sent, frame-lent}
 use Rattle.master_rtu.proofs.write_request.Statement.{statement}
 use Rattle.master_rtu.proofs.write_request.Tie as tie
+
+returns : tie.Need-returns
+returns c = search (cannot-sent, cannot-lent, unsaid)
 
 part-crc-end : tie.Need-part-crc-end
 part-crc-end c = search end-within
@@ -24,22 +28,15 @@ add-all c = search (end-fits, needs)
 part-send-end : tie.Need-part-send-end
 part-send-end c = search all-within
 
-returns : tie.Need-returns
-returns c = search (frame-sent, frame-lent)
-
 returns-2 : tie.Need-returns-2
-returns-2 c = search (unsaid, unsaid-lent)
-
-returns-3 : tie.Need-returns-3
-returns-3 c = search (never-short, never-short-lent)
+returns-2 c = search (frame-sent, frame-lent)
 
 pub write-request-spec : {M : Type 1} → statement M
 write-request-spec =
     tie.close
     (tie.spec
-    (λ c. search needs)
     (λ c κs. search needs)
-    (λ c. search needs)
+    returns
     (λ c. search needs)
     (λ c. search needs)
     part-crc-end
@@ -55,8 +52,4 @@ write-request-spec =
     part-send-end
     (λ c κs. search needs)
     (λ c. search needs)
-    (λ c. search needs)
-    (λ c. search needs)
-    returns
-    returns-2
-    returns-3)
+    returns-2)
