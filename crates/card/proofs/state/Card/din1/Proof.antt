@@ -1,6 +1,7 @@
 -- `card::Card::din1` meets its contract: the event on the plant, lifted. Assumes nothing.
 use borrow.Author.Needs.{needs}
-use Rattle.card.specs.Events.{din1Set}
+use Rattle.card.specs.Events.{happened, din1Set}
+use Rattle.card.proofs.Laws.{lifted}
 use Rattle.card.proofs.state.Card.din1.Statement.{statement}
 use Rattle.card.proofs.state.Card.din1.Tie as tie
 
@@ -12,7 +13,7 @@ happened-requires c κs = search needs
 
 returns : tie.Need-returns
 unfolding din1Set
-returns c = cc
+returns c = search (lifted happened)
 
 pub din1-spec : {M : Type 1} → statement M
 din1-spec = tie.close (tie.spec set-din1-requires happened-requires returns)

@@ -1,6 +1,7 @@
 -- `card::Card::measure` meets its contract: the event on the plant, lifted. Assumes nothing.
 use borrow.Author.Needs.{needs}
-use Rattle.card.specs.Events.{measuredSet}
+use Rattle.card.specs.Events.{happened, measuredSet}
+use Rattle.card.proofs.Laws.{lifted}
 use Rattle.card.proofs.state.Card.measure.Statement.{statement}
 use Rattle.card.proofs.state.Card.measure.Tie as tie
 
@@ -12,7 +13,7 @@ happened-requires c κs = search needs
 
 returns : tie.Need-returns
 unfolding measuredSet
-returns c = cc
+returns c = search (lifted happened)
 
 pub measure-spec : {M : Type 1} → statement M
 measure-spec = tie.close (tie.spec measure-requires happened-requires returns)

@@ -1,6 +1,6 @@
 -- `card::Card::parity_fault` meets its contract: a fault of the port with bit 1. Assumes nothing.
 use borrow.Author.Needs.{needs}
-use Rattle.card.specs.Events.{parityTold}
+use Rattle.card.proofs.Laws.{parity-of}
 use Rattle.card.proofs.state.Card.parity_fault.Statement.{statement}
 use Rattle.card.proofs.state.Card.parity_fault.Tie as tie
 
@@ -8,8 +8,7 @@ port-fault-requires : tie.Need-port-fault-requires
 port-fault-requires c κs = search needs
 
 returns : tie.Need-returns
-unfolding parityTold
-returns c = cc
+returns c = search parity-of
 
 pub parity-fault-spec : {M : Type 1} → statement M
 parity-fault-spec = tie.close (tie.spec port-fault-requires returns)

@@ -1,6 +1,7 @@
 -- `card::Card::raise_fault` meets its contract: the event on the plant, lifted. Assumes nothing.
 use borrow.Author.Needs.{needs}
-use Rattle.card.specs.Events.{faultRaised}
+use Rattle.card.specs.Events.{told, faultRaised}
+use Rattle.card.proofs.Laws.{lifted}
 use Rattle.card.proofs.state.Card.raise_fault.Statement.{statement}
 use Rattle.card.proofs.state.Card.raise_fault.Tie as tie
 
@@ -12,7 +13,7 @@ told-requires c κs = search needs
 
 returns : tie.Need-returns
 unfolding faultRaised
-returns c = cc
+returns c = search (lifted told)
 
 pub raise-fault-spec : {M : Type 1} → statement M
 raise-fault-spec = tie.close (tie.spec raise-fault-requires told-requires returns)

@@ -1,6 +1,6 @@
 -- `card::Card::restart` meets its contract: each part of the state is the definition's. Assumes nothing.
 use borrow.Author.Needs.{needs}
-use Rattle.card.specs.State.{restarted}
+use Rattle.card.proofs.Laws.{restarted-of}
 use Rattle.card.proofs.state.Card.restart.Statement.{statement}
 use Rattle.card.proofs.state.Card.restart.Tie as tie
 
@@ -14,8 +14,7 @@ element-copy-out-t11 : tie.Need-element-copy-out-t11
 element-copy-out-t11 c = search needs
 
 returns : tie.Need-returns
-unfolding restarted
-returns c = cc
+returns c = search restarted-of
 
 pub restart-spec : {M : Type 1} → statement M
 restart-spec = tie.close (tie.spec restart-requires emptied-requires element-copy-out-t11 returns)

@@ -1,6 +1,6 @@
 -- `card::Card::start` meets its contract: each part of the state is the definition's. Assumes nothing.
 use borrow.Author.Needs.{needs}
-use Rattle.card.specs.State.{started}
+use Rattle.card.proofs.Laws.{started-of}
 use Rattle.card.proofs.state.Card.start.Statement.{statement}
 use Rattle.card.proofs.state.Card.start.Tie as tie
 
@@ -17,8 +17,7 @@ element-copy-out-t9 : tie.Need-element-copy-out-t9
 element-copy-out-t9 c = search needs
 
 returns : tie.Need-returns
-unfolding started
-returns c = cc
+returns c = search started-of
 
 pub start-spec : {M : Type 1} → statement M
 start-spec =

@@ -1,18 +1,14 @@
 -- `card::Card::tick` meets its contract: the two tests of the range, then `counted`. Assumes nothing.
 use borrow.Author.Needs.{needs}
-use Rattle.base.proofs.Tests.{tests}
-use Rattle.card.proofs.Laws.{ticked-counted}
-use Rattle.card.specs.Events.{ticked}
+use Rattle.card.proofs.Laws.{ticked-0, ticked-above, ticked-counted}
 use Rattle.card.proofs.state.Card.tick.Statement.{statement}
 use Rattle.card.proofs.state.Card.tick.Tie as tie
 
 returns : tie.Need-returns
-unfolding ticked
-returns c = search tests
+returns c = search ticked-0
 
 returns-2 : tie.Need-returns-2
-unfolding ticked
-returns-2 c = search tests
+returns-2 c = search ticked-above
 
 count-requires : tie.Need-count-requires
 count-requires c κs = search needs
