@@ -1,51 +1,38 @@
 -- What a text answers, by the code's tests and calls. Assumes nothing.
-use mathlib.Core.Path.{_≡_, sym, ap, ap₂, _∙_}
+use mathlib.Core.Path.{_≡_, refl, sym, ap, ap₂, _∙_}
 use mathlib.Core.Bool.{Bool, true, false}
 use mathlib.Core.List.{List, [], _∷_}
-use Prim.Native.Nat.{ℕ, suc, _+_, _-_, _*_, _≤_, _<_}
+use Prim.Native.Nat.{ℕ, suc, _+_, _-_, _*_, _≤_}
 use native.Mathlib.Omega.{arith}
-use borrow.Author.Tests.{le-leb, lt-leb}
 use mir.Syntax.{w64}
 use mir.Val.{Fits}
-use lib.ListN.{length, take, drop, getD, replicate}
-use lib.Seq.{sets, length-sets}
-use Rattle.base.specs.Choice.{pick}
-use Rattle.base.proofs.Tests.{is-false, not-both, both-false}
+use lib.ListN.{length, take, drop, getD, length-take, replicate}
+use lib.Seq.{sets, length-sets, take-nil, take-take, getD-take}
+use Rattle.base.specs.Choice.{both}
+use Rattle.base.proofs.Tests.{is-false, not-both}
 use Rattle.base.proofs.Sets.{take-sets}
 use Rattle.hex.specs.Hex.{bytesOf}
 use Rattle.checks.specs.Lrc.{addsToZero}
-use Rattle.ascii.specs.Ascii.{counted, right, formed, addressIn, unitIn}
+use Rattle.ascii.specs.Ascii.{bytesIn, right, formed, addressIn, unitIn}
 use Rattle.ascii.proofs.Message.{counted-in}
 use Rattle.master_reply.specs.declared.Heard.{Heard}
 use Rattle.master_reply.specs.declared.Reply.the-variants.{NotAReply}
 use Rattle.master_reply.specs.Reply.{heard, heardOf}
-use Rattle.master_ascii.specs.Heard.{framed, bytesHeard, asciiHeard}
-use Rattle.master_ascii.proofs.Texts.{inner, inner-few, inner-bytes, inner-formed, formed-framed, formed-whole}
+use Rattle.master_ascii.specs.Heard.{framed, asciiHeard}
+use Rattle.master_ascii.proofs.Texts.{inner, inner-few, inner-least, inner-bytes, inner-formed, formed-framed, formed-whole}
 
--- ---- the bytes of a message
-unit-part : (b : List ℕ) → 3 ≤ length b → take (length b - 1 - 1) (drop 1 b) ≡ drop 1 (take (length b - 1) b)
-unit-part [] h = absurd (omega arith)
-unit-part (x ∷ t) h = let n : suc (length (x ∷ t) - 1 - 1) ≡ length (x ∷ t) - 1 = omega arith in ap (λ (n : ℕ). drop 1 (take n (x ∷ t))) n
-
-pub bytes-read : (b : List ℕ) (r : Heard) → 3 ≤ length b → length b ≤ 255 → addsToZero b ≡ true → r ≡ heardOf (getD b 0 0) (take (length b - 1 - 1) (drop 1 b)) → r ≡ bytesHeard b
-unfolding bytesHeard right
-bytes-read b r l h z e = rw (counted-in b l h, z) (e ∙ ap (heardOf (getD b 0 0)) (unit-part b l))
-
-not-right : (b : List ℕ) (x : Heard) → right b ≡ false → x ≡ heard NotAReply [] → x ≡ bytesHeard b
-unfolding bytesHeard
-not-right b x h e = rw h e
-
-pub bytes-few : (b : List ℕ) (x : Heard) → length b < 3 → x ≡ heard NotAReply [] → x ≡ bytesHeard b
-unfolding right counted
-bytes-few b x h e = not-right b x (simp (lt-leb 3 (length b) h)) e
-
-pub bytes-many : (b : List ℕ) (x : Heard) → 255 < length b → x ≡ heard NotAReply [] → x ≡ bytesHeard b
-unfolding right counted
-bytes-many b x h e = not-right b x (simp (le-leb 3 (length b) (omega arith), lt-leb (length b) 255 h)) e
-
-pub bytes-wrong : (b : List ℕ) (x : Heard) → addsToZero b ≡ false → x ≡ heard NotAReply [] → x ≡ bytesHeard b
-unfolding right
-bytes-wrong b x h e = not-right b x (rw h (both-false (counted b))) e
+-- the bytes between the first and the last of k bytes at the start of b
+unit-part : (k : ℕ) (b : List ℕ) → 2 ≤ k → k ≤ length b → take (k - 1 - 1) (drop 1 b) ≡ drop 1 (take (length (take (k - 0) b) - 1) (take (k - 0) b))
+unit-part k b h l =
+    let n : length (take (k - 0) b) - 1 ≡ k - 1 = omega (arith, length-take (k - 0) b) in
+    let m : suc (k - 1 - 1) ≡ k - 1 = omega arith in
+    from-second (k - 1 - 1) b
+    ∙ ap (λ (i : ℕ). drop 1 (take i b)) m
+    ∙ ap (drop 1) (sym (take-take (k - 1) (k - 0) b (omega arith)) ∙ ap (λ (i : ℕ). take i (take (k - 0) b)) (sym n))
+  where
+    from-second : (n : ℕ) (s : List ℕ) → take n (drop 1 s) ≡ drop 1 (take (suc n) s)
+    from-second n [] = take-nil n
+    from-second n (x ∷ s) = refl
 
 -- ---- a text that is no message
 no-message : (m : List ℕ) (x : Heard) → formed m ≡ false → x ≡ heard NotAReply [] → x ≡ asciiHeard m
@@ -58,29 +45,63 @@ unframed m x h e = no-message m x (is-false (formed m) (λ f. not-both (formed-f
 pub not-whole : (m : List ℕ) (x : Heard) (k : ℕ) → k ≡ length (bytesOf (inner m)) → (2 * k + 3 ≡ length m → ⊥) → x ≡ heard NotAReply [] → x ≡ asciiHeard m
 not-whole m x k c n e = no-message m x (is-false (formed m) (λ f. n (ap (λ (i : ℕ). 2 * i + 3) c ∙ formed-whole m f))) e
 
--- ---- a framed text, of whose characters between the k bytes are stored in an array, which is now b
+-- ---- a framed text, with k bytes between
 module _ (m : List ℕ) (k : ℕ) (count : k ≡ length (bytesOf (inner m))) (f : framed m ≡ true) where
-  count-few : k ≤ 255
-  count-few = omega (arith, inner-few m f)
-
-  -- so its double does not wrap
+  -- their double does not wrap
   pub twice-fits : Fits w64 (2 * k)
-  twice-fits = omega (arith, count-few)
+  twice-fits = omega (arith, inner-few m f)
 
   pub size-fits : Fits w64 (2 * k + 3)
-  size-fits = omega (arith, count-few)
+  size-fits = omega (arith, inner-few m f)
 
-  module _ (b : List ℕ) (lent : b ≡ sets (replicate 255 0) 0 (bytesOf (inner m))) where
-    pub count-within : k ≤ length b
-    count-within = omega (arith, count-few, ap length lent, length-sets (replicate 255 0) 0 (bytesOf (inner m)))
+  -- they are all of it, so there are three at least, and the last is not the first
+  module _ (w : 2 * k + 3 ≡ length m) where
+    three : 3 ≤ k
+    three = omega (arith, inner-least m f)
 
-    taken : take (k - 0) b ≡ bytesOf (inner m)
-    taken =
-        let n : k - 0 ≡ length (bytesOf (inner m)) = omega arith in
-        ap₂ take n lent ∙ take-sets (bytesOf (inner m)) (replicate 255 0) (omega (arith, inner-few m f))
+    pub last-there : 1 ≤ k
+    last-there = omega (arith, three)
 
-    pub whole-read : (x : Heard) → 2 * k + 3 ≡ length m → x ≡ bytesHeard (take (k - 0) b) → x ≡ asciiHeard m
-    unfolding asciiHeard bytesHeard addressIn unitIn
-    whole-read x w e =
-        let all : 2 * length (bytesOf (inner m)) + 3 ≡ length m = ap (λ (i : ℕ). 2 * i + 3) (sym count) ∙ w in
-        e ∙ ap bytesHeard (taken ∙ sym (inner-bytes m f all)) ∙ ap (λ (t : Bool). pick t (heardOf (addressIn m) (unitIn m)) (heard NotAReply [])) (sym (inner-formed m f all))
+    pub unit-there : 1 ≤ k - 1
+    unit-there = omega (arith, three)
+
+    whole : 2 * length (bytesOf (inner m)) + 3 ≡ length m
+    whole = ap (λ (i : ℕ). 2 * i + 3) (sym count) ∙ w
+
+    -- stored in an array, which is now b
+    module _ (b : List ℕ) (lent : b ≡ sets (replicate 255 0) 0 (bytesOf (inner m))) where
+      few : length (bytesOf (inner m)) ≤ 255
+      few = inner-few m f
+
+      array-length : length b ≡ 255
+      array-length = ap length lent ∙ length-sets (replicate 255 0) 0 (bytesOf (inner m))
+
+      pub count-within : k ≤ length b
+      count-within = omega (arith, few, array-length)
+
+      pub last-within : k - 1 ≤ length b
+      last-within = omega (arith, count-within)
+
+      taken : take (k - 0) b ≡ bytesIn m
+      taken =
+          let n : k - 0 ≡ length (bytesOf (inner m)) = omega arith in
+          ap₂ take n lent ∙ take-sets (bytesOf (inner m)) (replicate 255 0) few ∙ sym (inner-bytes m f whole)
+
+      -- whether it is a message, the sum tells
+      by-sum : formed m ≡ addsToZero (take (k - 0) b)
+      unfolding right
+      by-sum =
+          let n : length (bytesIn m) ≡ k = ap length (inner-bytes m f whole) ∙ sym count in
+          inner-formed m f whole
+          ∙ ap (λ (t : Bool). both t (addsToZero (bytesIn m))) (counted-in (bytesIn m) (omega (arith, three)) (omega (arith, few)))
+          ∙ ap addsToZero (sym taken)
+
+      pub sum-wrong : (x : Heard) → addsToZero (take (k - 0) b) ≡ false → x ≡ heard NotAReply [] → x ≡ asciiHeard m
+      sum-wrong x h e = no-message m x (by-sum ∙ h) e
+
+      pub sum-right : (x : Heard) → addsToZero (take (k - 0) b) ≡ true → x ≡ heardOf (getD b 0 0) (take (k - 1 - 1) (drop 1 b)) → x ≡ asciiHeard m
+      unfolding asciiHeard addressIn unitIn
+      sum-right x h e =
+          let n : k - 0 ≡ length (bytesIn m) = omega (arith, count, ap length (inner-bytes m f whole)) in
+          rw (by-sum ∙ h) (e ∙ ap₂ heardOf (sym (getD-take (k - 0) b 0 0 (omega (arith, three))) ∙ ap (λ (s : List ℕ). getD s 0 0) taken)
+          (unit-part k b (omega (arith, three)) count-within ∙ ap (λ (s : List ℕ). drop 1 (take (length s - 1) s)) taken))

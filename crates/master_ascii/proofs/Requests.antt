@@ -1,4 +1,5 @@
--- What the code makes of a request: behind the address and the unit, in an array of 256 bytes, goes their LRC, and the message of these is sent. Assumes nothing.
+-- What the code makes of a request: behind the address and the unit, in an array of 256 bytes, goes their LRC, and the message of these is put where it fits.
+-- Assumes nothing.
 use mathlib.Core.Path.{_≡_, refl, sym, ap, ap₂, _∙_}
 use mathlib.Core.Bool.{Bool, true, false}
 use mathlib.Core.List.{List, [], _∷_, _++_}
@@ -14,42 +15,29 @@ use Rattle.ascii.specs.Ascii.{textOf, asciiOf}
 use Rattle.ascii.specs.Text.{fitting}
 use Rattle.ascii.proofs.Message.{text-length}
 use Rattle.ascii.proofs.Texts.{fitting-none, fitting-all}
-use Rattle.master.specs.declared.Sent.{Sent}
 use Rattle.master.specs.declared.Sent.the-variants.{Written, ShortBuffer}
 use Rattle.master.specs.Sent.{sentOf, bytesSent}
-use Rattle.master.proofs.Sends.{short-sent, short-bytes, written-sent, written-bytes, said-sent, said-lent}
+use Rattle.master.proofs.Sends.{short-sent, short-bytes, written-sent, written-bytes}
 use Rattle.master_request.specs.declared.Ask.{Ask}
 use Rattle.master_request.specs.declared.Body.{Body}
 use Rattle.master_request.specs.Ask.{sayable, requestUnit, bodyWith, bodySaid}
 use Rattle.master_request.proofs.Made.{said, first-within, array-length, body-taken}
 
--- ---- the message of the bytes b, put into the text t: `put_text` tells its length, or 0
-module _ (b t : List ℕ) (r : ℕ) (count : r ≡ length (fitting (length t) (textOf b))) where
-  too-short : r ≡ 0 → length t < length (textOf b)
-  too-short e = go (leb (length (textOf b)) (length t)) refl
+-- ---- the message m, put into the text t: `put_text` tells its length, or 0
+module _ (m t : List ℕ) (some : 1 ≤ length m) (r : ℕ) (count : r ≡ length (fitting (length t) m)) where
+  too-short : r ≡ 0 → length t < length m
+  too-short e = go (leb (length m) (length t)) refl
     where
-      go : (u : Bool) → leb (length (textOf b)) (length t) ≡ u → length t < length (textOf b)
-      go true h = absurd (omega (arith, text-length b, ap length (fitting-all (length t) (textOf b) (leb-true (length (textOf b)) (length t) h))))
-      go false h = leb-false (length (textOf b)) (length t) h
+      go : (u : Bool) → leb (length m) (length t) ≡ u → length t < length m
+      go true h = absurd (omega (arith, ap length (fitting-all (length t) m (leb-true (length m) (length t) h))))
+      go false h = leb-false (length m) (length t) h
 
-  has-room : (r ≡ 0 → ⊥) → length (textOf b) ≤ length t
-  has-room n = go (leb (length (textOf b)) (length t)) refl
+  has-room : (r ≡ 0 → ⊥) → length m ≤ length t
+  has-room n = go (leb (length m) (length t)) refl
     where
-      go : (u : Bool) → leb (length (textOf b)) (length t) ≡ u → length (textOf b) ≤ length t
-      go true h = leb-true (length (textOf b)) (length t) h
-      go false h = absurd (n (count ∙ ap length (fitting-none (length t) (textOf b) (leb-false (length (textOf b)) (length t) h))))
-
-  pub text-short : r ≡ 0 → ShortBuffer ≡ sentOf true (textOf b) (length t)
-  text-short e = short-sent true (textOf b) t refl (too-short e)
-
-  pub text-short-lent : (now : List ℕ) → r ≡ 0 → now ≡ front (fitting (length t) (textOf b)) t → now ≡ front (bytesSent true (textOf b) (length t)) t
-  text-short-lent now e h = h ∙ ap (λ (m : List ℕ). front m t) (fitting-none (length t) (textOf b) (too-short e) ∙ sym (short-bytes true (textOf b) t refl (too-short e)))
-
-  pub text-sent : (r ≡ 0 → ⊥) → Written r ≡ sentOf true (textOf b) (length t)
-  text-sent n = written-sent true (textOf b) t refl (has-room n) r (count ∙ ap length (fitting-all (length t) (textOf b) (has-room n)))
-
-  pub text-lent : (now : List ℕ) → (r ≡ 0 → ⊥) → now ≡ front (fitting (length t) (textOf b)) t → now ≡ front (bytesSent true (textOf b) (length t)) t
-  text-lent now n h = h ∙ ap (λ (m : List ℕ). front m t) (fitting-all (length t) (textOf b) (has-room n) ∙ sym (written-bytes true (textOf b) t refl (has-room n)))
+      go : (u : Bool) → leb (length m) (length t) ≡ u → length m ≤ length t
+      go true h = leb-true (length m) (length t) h
+      go false h = absurd (n (count ∙ ap length (fitting-none (length t) m (leb-false (length m) (length t) h))))
 
 -- ---- the body, its LRC behind it
 module _ (a : ℕ) (ask : Ask) (s : List ℕ) (b : Body) (made : b ≡ bodyWith (bodySaid a ask s)) (some : b .size ≡ 0 → ⊥) where
@@ -68,12 +56,43 @@ module _ (a : ℕ) (ask : Ask) (s : List ℕ) (b : Body) (made : b ≡ bodyWith 
         ∙ take-suc-set (b .bytes) (b .size) x (omega (arith, array-length a ask s b made some, first-within a ask s b made some))
         ∙ ap₂ (λ (p : List ℕ) (y : ℕ). p ++ y ∷ []) (ap (λ (i : ℕ). take i (b .bytes)) n ∙ body) (h ∙ ap lrcOf body))
 
-    pub message-sent : (n : ℕ) (r : Sent) → r ≡ sentOf true (textOf (take (b .size + 1 - 0) (set (b .bytes) (b .size) x))) n
-        → r ≡ sentOf (sayable a ask (length s)) (asciiOf a (requestUnit ask s)) n
-    message-sent n r q =
-        said-sent (sayable a ask (length s)) (asciiOf a (requestUnit ask s)) [] (said a ask s b made some) n r (q ∙ ap (λ (m : List ℕ). sentOf true m n) message)
+    -- the text t, of which `put_text` told r
+    module _ (t : List ℕ) (r : ℕ) (count : r ≡ length (fitting (length t) (textOf (take (b .size + 1 - 0) (set (b .bytes) (b .size) x))))) where
+      m : List ℕ
+      m = asciiOf a (requestUnit ask s)
 
-    pub message-lent : (n : ℕ) (buf now : List ℕ) → now ≡ front (bytesSent true (textOf (take (b .size + 1 - 0) (set (b .bytes) (b .size) x))) n) buf
-        → now ≡ front (bytesSent (sayable a ask (length s)) (asciiOf a (requestUnit ask s)) n) buf
-    message-lent n buf now q =
-        said-lent (sayable a ask (length s)) (asciiOf a (requestUnit ask s)) buf (said a ask s b made some) n now (q ∙ ap (λ (m : List ℕ). front (bytesSent true m n) buf) message)
+      some-text : 1 ≤ length m
+      unfolding m asciiOf
+      some-text = omega (arith, text-length ((a ∷ requestUnit ask s) ++ lrcOf (a ∷ requestUnit ask s) ∷ []))
+
+      told : r ≡ length (fitting (length t) m)
+      unfolding m
+      told = count ∙ ap (λ (y : List ℕ). length (fitting (length t) y)) message
+
+      pub text-short : r ≡ 0 → ShortBuffer ≡ sentOf (sayable a ask (length s)) (asciiOf a (requestUnit ask s)) (length t)
+      unfolding m
+      text-short e = short-sent (sayable a ask (length s)) m t (said a ask s b made some) (too-short m t some-text r told e)
+
+      pub text-sent : (r ≡ 0 → ⊥) → Written r ≡ sentOf (sayable a ask (length s)) (asciiOf a (requestUnit ask s)) (length t)
+      unfolding m
+      text-sent n =
+          let fits : length m ≤ length t = has-room m t some-text r told n in
+          written-sent (sayable a ask (length s)) m t (said a ask s b made some) fits r (told ∙ ap length (fitting-all (length t) m fits))
+
+      -- and which is now z
+      module _ (z : List ℕ) (q : z ≡ front (fitting (length t) (textOf (take (b .size + 1 - 0) (set (b .bytes) (b .size) x)))) t) where
+        stored : z ≡ front (fitting (length t) m) t
+        unfolding m
+        stored = q ∙ ap (λ (y : List ℕ). front (fitting (length t) y) t) message
+
+        pub text-short-lent : r ≡ 0 → z ≡ front (bytesSent (sayable a ask (length s)) (asciiOf a (requestUnit ask s)) (length t)) t
+        unfolding m
+        text-short-lent e =
+            let short : length t < length m = too-short m t some-text r told e in
+            stored ∙ ap (λ (y : List ℕ). front y t) (fitting-none (length t) m short ∙ sym (short-bytes (sayable a ask (length s)) m t (said a ask s b made some) short))
+
+        pub text-lent : (r ≡ 0 → ⊥) → z ≡ front (bytesSent (sayable a ask (length s)) (asciiOf a (requestUnit ask s)) (length t)) t
+        unfolding m
+        text-lent n =
+            let fits : length m ≤ length t = has-room m t some-text r told n in
+            stored ∙ ap (λ (y : List ℕ). front y t) (fitting-all (length t) m fits ∙ sym (written-bytes (sayable a ask (length s)) m t (said a ask s b made some) fits))

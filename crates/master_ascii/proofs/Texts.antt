@@ -57,6 +57,9 @@ framed-in m h =
     (both-in (eq-eqb (getD m 0 0) 0x3A (h .colon)) (both-in (eq-eqb (getD m (length m - 2) 0) 0x0D (h .cr)) (eq-eqb (getD m (length m - 1) 0) 0x0A (h .lf))))
 
 -- there are characters between, and their bytes fit an array of 255
+pub inner-least : (m : List ℕ) → framed m ≡ true → 9 ≤ length m
+inner-least m e = framed-out m e .least
+
 pub inner-starts : (m : List ℕ) → framed m ≡ true → 1 ≤ length m - 2
 inner-starts m e = omega (arith, framed-out m e .least)
 

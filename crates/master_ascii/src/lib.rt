@@ -6,31 +6,18 @@ use master_reply::read_unit;
 use master_request::Ask;
 use master_request::body_of;
 ghost use mathlib.Core.Path.{_≡_};
-ghost use mathlib.Core.Bool.{true};
 ghost use mathlib.Core.List.{[]};
 ghost use lib.ListN.{length};
 ghost use Rattle.base.specs.Buffers.{front};
-ghost use Rattle.ascii.specs.Ascii.{textOf, asciiOf};
+ghost use Rattle.ascii.specs.Ascii.{asciiOf};
 ghost use Rattle.master.specs.Sent.{sentOf, bytesSent};
 ghost use Rattle.master_request.specs.Ask.{sayable, requestUnit};
 ghost use Rattle.master_reply.specs.Reply.{heard};
 ghost use Rattle.master_reply.specs.declared.Reply.the-variants.{NotAReply};
-ghost use Rattle.master_ascii.specs.Heard.{framed, bytesHeard, asciiHeard};
-
-// Puts the message of some bytes, the LRC among them, where it fits.
-fn send_text(bytes: &[u8], out: &mut [u8]) -> Sent
-    ensures sent { λ r. ⌜ r ≡ sentOf true (textOf (now (bytes .entry))) (length (now (out .entry))) ⌝ }
-    ensures lent { λ _. ⌜ now (out .exit) ≡ front (bytesSent true (textOf (now (bytes .entry))) (length (now (out .entry)))) (now (out .entry)) ⌝ }
-{
-    let size = ascii::put_text(bytes, out);
-    if size == 0 {
-        return Sent::ShortBuffer;
-    }
-    Sent::Written(size)
-}
+ghost use Rattle.master_ascii.specs.Heard.{framed, asciiHeard};
 
 // Puts the message of what is asked at the start of `out`: 13 where it cannot be said, then 10 where it does not fit. `registers` are the register bytes of
-// a `Many`, high byte first.
+// a `Many`; the others do not look at them.
 pub fn write_request(address: u8, ask: Ask, registers: &[u8], out: &mut [u8]) -> Sent
     ensures sent { λ r. ⌜ r ≡ sentOf (sayable address ask (length (now (registers .entry)))) (asciiOf address (requestUnit ask (now (registers .entry)))) (length (now (out .entry))) ⌝ }
     ensures lent { λ _. ⌜ now (out .exit) ≡ front (bytesSent (sayable address ask (length (now (registers .entry)))) (asciiOf address (requestUnit ask (now (registers .entry)))) (length (now (out .entry)))) (now (out .entry)) ⌝ }
@@ -43,7 +30,11 @@ pub fn write_request(address: u8, ask: Ask, registers: &[u8], out: &mut [u8]) ->
     let mut bytes = body.bytes;
     bytes[end] = checks::lrc(&bytes[0..end]);
     let all = end + 1;
-    send_text(&bytes[0..all], out)
+    let size = ascii::put_text(&bytes[0..all], out);
+    if size == 0 {
+        return Sent::ShortBuffer;
+    }
+    Sent::Written(size)
 }
 
 // No reply.
@@ -54,23 +45,6 @@ fn nothing() -> Heard
         words: [0u16; 125],
         reply: Reply::NotAReply,
     }
-}
-
-// What the bytes of a message answer.
-fn read_bytes(bytes: &[u8]) -> Heard
-    ensures { λ r. ⌜ r ≡ bytesHeard (now (bytes .entry)) ⌝ }
-{
-    if bytes.len() < 3 {
-        return nothing();
-    }
-    if 255 < bytes.len() {
-        return nothing();
-    }
-    if !checks::adds_to_zero(bytes) {
-        return nothing();
-    }
-    let end = bytes.len() - 1;
-    read_unit(bytes[0], &bytes[1..end])
 }
 
 // Whether a text is 9 to 513 characters, the first of them `:` and the last CR LF.
@@ -106,5 +80,9 @@ pub fn read_reply(text: &[u8]) -> Heard
     if 2 * count + 3 != text.len() {
         return nothing();
     }
-    read_bytes(&bytes[0..count])
+    if !checks::adds_to_zero(&bytes[0..count]) {
+        return nothing();
+    }
+    let last = count - 1;
+    read_unit(bytes[0], &bytes[1..last])
 }

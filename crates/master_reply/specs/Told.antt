@@ -1,4 +1,4 @@
--- Replies as bytes, and what the card answers, as a master is to hear it: "each reply is read back as what was answered". Assumes nothing.
+-- Replies as bytes, and what the card answers, as a master is to hear it: each reply is read back as what was answered. Assumes nothing.
 use mathlib.Core.Logic.{_⊎_}
 use mathlib.Core.Path.{_≡_}
 use mathlib.Core.List.{List, [], _∷_, _++_}

@@ -1,4 +1,4 @@
--- What the card is to read of what a master asks: "What the master side writes is read by the card as that same request". Assumes nothing.
+-- What the card is to read of what a master asks: that same request. Assumes nothing.
 use mathlib.Core.List.{List, []}
 use Prim.Native.Nat.{ℕ, _+_, _/_, _<_}
 use lib.ListN.{length}

@@ -15,7 +15,7 @@ ghost use Rattle.master_request.specs.Ask.{sayable, requestUnit};
 ghost use Rattle.master_rtu.specs.Heard.{rtuHeard};
 
 // Puts the frame of what is asked at the start of `out`: 13 where it cannot be said, then 10 where it does not fit. `registers` are the register bytes of
-// a `Many`, high byte first.
+// a `Many`; the others do not look at them.
 pub fn write_request(address: u8, ask: Ask, registers: &[u8], out: &mut [u8]) -> Sent
     ensures sent { λ r. ⌜ r ≡ sentOf (sayable address ask (length (now (registers .entry)))) (rtuOf address (requestUnit ask (now (registers .entry)))) (length (now (out .entry))) ⌝ }
     ensures lent { λ _. ⌜ now (out .exit) ≡ front (bytesSent (sayable address ask (length (now (registers .entry)))) (rtuOf address (requestUnit ask (now (registers .entry)))) (length (now (out .entry)))) (now (out .entry)) ⌝ }

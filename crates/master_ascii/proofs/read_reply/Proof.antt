@@ -1,8 +1,9 @@
--- `master_ascii::read_reply` meets its contract: a framed text whose characters between are all pairs is the text of their bytes. Assumes nothing.
+-- `master_ascii::read_reply` meets its contract: a framed text whose characters between are all pairs is the text of their bytes, so the sum of these tells
+-- whether it is a message. Assumes nothing.
 use borrow.Author.Needs.{needs}
 use Rattle.base.proofs.Tests.{tests}
 use Rattle.master_ascii.proofs.Texts.{inner-starts, inner-ends}
-use Rattle.master_ascii.proofs.Replies.{unframed, not-whole, twice-fits, size-fits, count-within, whole-read}
+use Rattle.master_ascii.proofs.Replies.{unframed, not-whole, twice-fits, size-fits, last-there, unit-there, count-within, last-within, sum-wrong, sum-right}
 use Rattle.master_ascii.proofs.read_reply.Statement.{statement}
 use Rattle.master_ascii.proofs.read_reply.Tie as tie
 
@@ -27,11 +28,26 @@ add-if2 c = search (tests, size-fits, needs)
 returns-2 : tie.Need-returns-2
 returns-2 c = search not-whole
 
-part-read-bytes-end : tie.Need-part-read-bytes-end
-part-read-bytes-end c = search (tests, count-within)
+part-adds-to-zero-end : tie.Need-part-adds-to-zero-end
+part-adds-to-zero-end c = search (tests, count-within)
 
 returns-3 : tie.Need-returns-3
-returns-3 c = search (tests, whole-read)
+returns-3 c = search (tests, sum-wrong)
+
+sub-last : tie.Need-sub-last
+sub-last c = search (tests, last-there, needs)
+
+sub-read-unit : tie.Need-sub-read-unit
+sub-read-unit c = search (tests, unit-there, needs)
+
+part-read-unit-start : tie.Need-part-read-unit-start
+part-read-unit-start c = search (tests, unit-there, needs)
+
+part-read-unit-end : tie.Need-part-read-unit-end
+part-read-unit-end c = search (tests, last-within)
+
+returns-4 : tie.Need-returns-4
+returns-4 c = search (tests, sum-right)
 
 pub read-reply-spec : {M : Type 1} → statement M
 read-reply-spec =
@@ -52,6 +68,14 @@ read-reply-spec =
     returns-2
     (λ c. search needs)
     (λ c. search needs)
-    part-read-bytes-end
+    part-adds-to-zero-end
     (λ c κs. search needs)
-    returns-3)
+    (λ c κs. search needs)
+    returns-3
+    sub-last
+    (λ c. search needs)
+    sub-read-unit
+    part-read-unit-start
+    part-read-unit-end
+    (λ c κs. search needs)
+    returns-4)
