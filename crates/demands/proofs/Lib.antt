@@ -5,4 +5,7 @@ pub mod Taking
 pub mod Told
 pub mod Replied
 pub mod Demand2
+pub mod Numbered
+pub mod Leaving
+pub mod Demand1
 pub mod Cases

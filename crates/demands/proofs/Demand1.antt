@@ -1,0 +1,100 @@
+-- Demand 1 holds: each number is given by the first line of its order that applies, and leaves what document 01 says. Assumes nothing.
+use mathlib.Core.Path.{_≡_, refl, sym, ap, _∙_}
+use mathlib.Core.Bool.{Bool, true, false, not}
+use mathlib.Core.List.{List, [], _∷_}
+use Prim.Native.Nat.{ℕ, _≤_}
+use native.Mathlib.Omega.{arith}
+use borrow.Author.Tests.{ltb-false}
+use lib.Dec.{ltb}
+use lib.ListN.{length}
+use Rattle.base.specs.Choice.{pick, either}
+use Rattle.base.specs.Order.{when, firstOf, saying}
+use Rattle.base.proofs.Tests.{pick-yes}
+use Rattle.drive.specs.declared.plant.Plant.{Plant}
+use Rattle.drive.specs.Events.{isFault, event, raised, ended}
+use Rattle.card.specs.Events.{happened, refused, told, faultRaised, causeEnded, din1Set, measuredSet, parityTold, ticked}
+use Rattle.card.specs.Outcome.{numberOf}
+use Rattle.card.specs.declared.state.Card.{Card}
+use Rattle.card.specs.declared.events.After.{After}
+use Rattle.card.specs.declared.outcome.Outcome.the-variants.{Done, NoSuchEvent}
+use Rattle.receive.specs.Receive.{received}
+use Rattle.receive.proofs.Laws.{received-used, received-short}
+use Rattle.master.specs.declared.Sent.{Sent}
+use Rattle.master.specs.declared.Sent.the-variants.{Written, CannotBeSaid, ShortBuffer}
+use Rattle.master.specs.Sent.{sentNumber, refusals, sentOf, bytesSent}
+use Rattle.base.proofs.Sets.{fitting-none}
+use Rattle.master.proofs.Sends.{sent-cases}
+use Rattle.demands.specs.Demand1.{callOrder, numberIn, Receiving, Refuses, Events, Writing, Demand1}
+use Rattle.demands.proofs.Numbered.{gives, received-number}
+use Rattle.demands.proofs.Leaving.{received-leaves}
+
+-- ---- calls
+reply-fits : (c : Card) (bytes : List ℕ) (room : ℕ) → length (received c bytes room .reply) ≤ room
+reply-fits c bytes room = go (ltb room 19) refl
+  where
+    go : (t : Bool) → ltb room 19 ≡ t → length (received c bytes room .reply) ≤ room
+    go true e =
+        let ten : numberIn (received c bytes room) ≡ 10 = received-number c bytes room ∙ sym (pick-yes (ltb room 19) _ _ 10 e refl) in
+        let none : length (received c bytes room .reply) ≡ 0 = ap length (received-leaves c bytes room .short ten .2) in
+        omega (arith, none)
+    go false e = omega (arith, received-short c bytes room, ltb-false room 19 e)
+
+receiving : Receiving
+receiving =
+    record {
+      within = λ c bytes room. (received-used c bytes room, reply-fits c bytes room);
+      number = λ c bytes room n. gives numberOf (callOrder c bytes room) (numberIn (received c bytes room)) n (received-number c bytes room);
+      leaves = λ c bytes room. received-leaves c bytes room;
+    }
+
+-- ---- events
+refuses : (t : Bool) (c d : Card) (a : After) → a ≡ pick t (refused c) (record { card = d; outcome = Done }) → Refuses t c a
+refuses true c d a e =
+    (λ n. gives numberOf (when true NoSuchEvent ∷ []) (numberOf (a .outcome)) n (ap (λ (x : After). numberOf (x .outcome)) e), λ _. ap (λ (x : After). x .card) e)
+refuses false c d a e = (
+  λ n. gives numberOf (when false NoSuchEvent ∷ []) (numberOf (a .outcome)) n (ap (λ (x : After). numberOf (x .outcome)) e),
+  λ h. let z : numberOf (a .outcome) ≡ 0 = ap (λ (x : After). numberOf (x .outcome)) e in absurd (omega (arith, z, h)),
+)
+
+-- a known fault
+tells : (n : ℕ) (p : Plant) (c : Card) → Refuses (not (isFault n)) c (told (event n p (c .plant)) c)
+unfolding told happened
+tells n p c = refuses (not (isFault n)) c (happened p c .card) (told (event n p (c .plant)) c) (go (isFault n))
+  where
+    go : (t : Bool) → told (pick t (record { plant = p; known = true }) (record { plant = c .plant; known = false })) c ≡ pick (not t) (refused c) (record { card = happened p c .card; outcome = Done })
+    go true = refl
+    go false = refl
+
+events : Events
+unfolding faultRaised causeEnded raised ended happened din1Set measuredSet parityTold ticked
+events =
+    record {
+      raise = λ n c. tells n _ c;
+      end = λ n c. tells n _ c;
+      tick = λ n c. refuses (either (ltb n 1) (ltb 250 n)) c _ (ticked n c) refl;
+      din1 = λ active c. refl;
+      measure = λ measured c. refl;
+      parity = λ c. refl;
+    }
+
+-- ---- the master's writers
+sent-number : (sayable : Bool) (m : List ℕ) (room : ℕ) → sentNumber (sentOf sayable m room) ≡ firstOf (saying sentNumber (refusals sayable m room)) 0
+unfolding sentOf
+sent-number s m room = go s (ltb room (length m))
+  where
+    go : (s t : Bool) → sentNumber (pick (not s) CannotBeSaid (pick t ShortBuffer (Written (length m)))) ≡ pick (not s) 13 (pick t 10 0)
+    go false t = refl
+    go true true = refl
+    go true false = refl
+
+unsent : (sayable : Bool) (m : List ℕ) (room : ℕ) → (sentNumber (sentOf sayable m room) ≡ 0 → ⊥) → bytesSent sayable m room ≡ []
+unfolding bytesSent
+unsent s m room =
+    sent-cases s m room (λ (x : Sent). (sentNumber x ≡ 0 → ⊥) → bytesSent s m room ≡ []) (λ e _. simp e) (λ e h _. simp e (fitting-none m room h)) (λ e h n. absurd (n refl))
+
+writing : Writing
+writing =
+    record { number = λ s m room n. gives sentNumber (refusals s m room) (sentNumber (sentOf s m room)) n (sent-number s m room); unsent = unsent }
+
+pub demand-1 : Demand1
+demand-1 = (receiving, events, writing)

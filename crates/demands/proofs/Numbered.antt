@@ -1,0 +1,201 @@
+-- The number of what is served, and of a call, is that of the first line of its order that applies. Assumes nothing.
+use mathlib.Core.Path.{_≡_, refl, sym, ap, subst, _∙_}
+use mathlib.Core.Logic.{_⊎_, inl, inr, _↔_}
+use mathlib.Core.Bool.{Bool, true, false, not}
+use mathlib.Core.List.{List, [], _∷_, _++_}
+use Prim.Native.Nat.{ℕ}
+use lib.Dec.{eqb, ltb}
+use lib.ListN.{length, getD}
+use Rattle.base.specs.Choice.{pick, both}
+use Rattle.base.specs.Order.{Line, when, firstOf, saying}
+use Rattle.base.proofs.Tests.{pick-yes, pick-no}
+use Rattle.table.specs.declared.labels.Row.{Row}
+use Rattle.drive.specs.declared.plant.Plant.{Plant}
+use Rattle.answers.specs.declared.Answer.{Answer}
+use Rattle.answers.specs.declared.Answer.the-variants.{Refused}
+use Rattle.answers.specs.Answer.{refusalNumber, answerNumber}
+use Rattle.permit.specs.declared.Permit.{Permit}
+use Rattle.permit.specs.declared.Permit.the-variants as Permits
+use Rattle.permit.specs.Refusals.{readOnly, readLine, writeLines}
+use Rattle.permit.specs.Permit.{permitOf}
+use Rattle.writing.specs.Write.{written}
+use Rattle.service.specs.Serving.{isNone, theRow, keeping, permitted, toldServed, wroteServed}
+use Rattle.service.specs.declared.Served.{Served}
+use Rattle.nfo.specs.declared.message.Message.{Message}
+use Rattle.nfo.specs.declared.message.Message.the-variants.{Enquiry, Select}
+use Rattle.nfo.specs.declared.message.Value.{Value}
+use Rattle.nfo_service.specs.Serve as Nfo
+use Rattle.modbus.specs.Words.{longAt}
+use Rattle.modbus.specs.Request.{requestOf}
+use Rattle.modbus.specs.declared.requests.Request.{Request}
+use Rattle.modbus.specs.declared.requests.Request.the-variants.{Read, One, Many, Malformed, Unknown}
+use Rattle.modbus_service.specs.Serve as Modbus
+use Rattle.modbus_service.specs.Reply.{exchanged}
+use Rattle.rtu.specs.Rtu.{frameHolds, addressIn, unitIn}
+use Rattle.ascii.specs.Ascii.{bytesIn}
+use Rattle.ascii_scan.specs.Parts.{unitAmong}
+use Rattle.pending.specs.declared.Scan.{Scan}
+use Rattle.pending.specs.Held.{held}
+use Rattle.nfo.specs.Parts.{messageOf}
+use Rattle.card.specs.Outcome.{numberOf}
+use Rattle.card.specs.declared.state.Card.{Card}
+use Rattle.card.specs.declared.outcome.Outcome.{Outcome}
+use Rattle.card.specs.declared.outcome.Outcome.the-variants as Outcomes
+use Rattle.turn.specs.Turn.{Received, tooShort, waiting}
+use Rattle.turn.specs.Stream.{byScan}
+use Rattle.nfo_port.specs.Receive.{nfoStream, nfoReceived}
+use Rattle.rtu_port.specs.Receive as Rtu
+use Rattle.ascii_port.specs.Receive.{asciiStream, asciiReceived}
+use Rattle.receive.specs.Receive.{received}
+use Rattle.demands.specs.Demand1.{Gives, nfoOrder, changeLines, modbusOrder, scanOf, serialOrder, asciiOrder, rtuOrder, callOrder, numberIn}
+
+-- ---- orders, and the number of the first line that applies
+module _ {A : Type 0} (number : A → ℕ) where
+  gives-first : (ls : List (Line A)) → Gives number ls (firstOf (saying number ls) 0)
+  gives-first [] = refl
+  gives-first (l ∷ ls) = go (l .test) refl (gives-first ls)
+    where
+      go : (t : Bool) → l .test ≡ t → Gives number ls (firstOf (saying number ls) 0)
+          → ((l .test ≡ true) × (number (l .answer) ≡ pick t (number (l .answer)) (firstOf (saying number ls) 0)))
+          ⊎ ((l .test ≡ false) × Gives number ls (pick t (number (l .answer)) (firstOf (saying number ls) 0)))
+      go true e g = inl (e, refl)
+      go false e g = inr (e, g)
+
+  gives-one : (ls : List (Line A)) (n : ℕ) → Gives number ls n → firstOf (saying number ls) 0 ≡ n
+  gives-one [] n e = sym e
+  gives-one (l ∷ ls) n (inl (e, h)) = sym (pick-yes (l .test) _ _ n e (sym h))
+  gives-one (l ∷ ls) n (inr (e, g)) = sym (pick-no (l .test) _ _ n e (sym (gives-one ls n g)))
+
+  -- a number that is the first line's is given by the order, and only it
+  pub gives : (ls : List (Line A)) (m n : ℕ) → m ≡ firstOf (saying number ls) 0 → (m ≡ n) ↔ Gives number ls n
+  gives ls m n e = (λ h. subst (Gives number ls) (sym e ∙ h) (gives-first ls), λ g. e ∙ gives-one ls n g)
+
+  -- the number of the first of lines that were said in other words
+  first-by : {B : Type 0} (count : B → ℕ) (say : A → B) → ((a : A) → count (say a) ≡ number a) → (ls : List (Line A)) (b : B)
+      → count (firstOf (saying say ls) b) ≡ firstOf (saying number ls) (count b)
+  first-by count say same [] b = refl
+  first-by count say same (l ∷ ls) b = go (l .test) (first-by count say same ls b)
+    where
+      go : (t : Bool) → count (firstOf (saying say ls) b) ≡ firstOf (saying number ls) (count b)
+          → count (pick t (say (l .answer)) (firstOf (saying say ls) b)) ≡ pick t (number (l .answer)) (firstOf (saying number ls) (count b))
+      go true e = same (l .answer)
+      go false e = e
+
+-- the lines of a message, as those of a call
+first-served : (ls : List (Line Answer)) → firstOf (saying numberOf (saying Outcomes.Served ls)) 0 ≡ firstOf (saying answerNumber ls) 0
+first-served [] = refl
+first-served (l ∷ ls) = ap (pick (l .test) (answerNumber (l .answer))) (first-served ls)
+
+-- ---- what is served
+abbrev pub servedNumber : Served → ℕ
+servedNumber s = answerNumber (s .answer)
+
+-- a write, by 3 to 7
+wrote-number : (p : Plant) (s row w : ℕ) → servedNumber (wroteServed p s row w) ≡ firstOf (saying answerNumber (saying Refused (readLine row ∷ writeLines p row w))) 0
+unfolding wroteServed written permitOf
+wrote-number p s row w = first-by refusalNumber (λ (k : Permit). answerNumber (permitted k)) Permits.Refused (λ r. refl) (readLine row ∷ writeLines p row w) _
+
+-- line 3 need not be read again, and the stop passes by the lines from 4 on
+again : (r h s : Bool) (a b : ℕ) (ls : List (Line Answer))
+    → pick r a (pick h b (pick s 0 (pick r a (firstOf (saying answerNumber ls) 0)))) ≡ pick r a (pick h b (firstOf (saying answerNumber (pick s [] ls)) 0))
+again true h s a b ls = refl
+again false h true a b ls = refl
+again false h false a b ls = refl
+
+module _ (p : Plant) (s adr : ℕ) where
+  row-number : (row : Row) (v : Value)
+      → servedNumber (Nfo.rowSelected p s adr row v)
+      ≡ firstOf (saying answerNumber (Nfo.rowLines row v ++ pick (Nfo.stops p adr (row .0) (Nfo.theWord v)) [] (saying Refused (writeLines p (row .0) (Nfo.theWord v))))) 0
+  unfolding Nfo.rowSelected
+  row-number row v =
+      let w : ℕ = Nfo.theWord v in
+      let t : Bool = Nfo.stops p adr (row .0) w in
+      first-by answerNumber servedNumber (keeping p s) (λ a. refl) (Nfo.rowLines row v) (pick t (Nfo.stopServed p row w) (wroteServed p s (row .0) w))
+      ∙ ap (firstOf (saying answerNumber (Nfo.rowLines row v))) (stop t ∙ ap (pick t 0) (wrote-number p s (row .0) w))
+      ∙ again (readOnly (row .0)) (Nfo.notHex v) t 3 8 (saying Refused (writeLines p (row .0) w))
+    where
+      stop : (t : Bool) → servedNumber (pick t (Nfo.stopServed p row (Nfo.theWord v)) (wroteServed p s (row .0) (Nfo.theWord v))) ≡ pick t 0 (servedNumber (wroteServed p s (row .0) (Nfo.theWord v)))
+      stop true = refl
+      stop false = refl
+
+pub nfo-number : (p : Plant) (s : ℕ) (m : Message) → servedNumber (Nfo.served p s m) ≡ firstOf (saying answerNumber (nfoOrder p m)) 0
+unfolding Nfo.served Nfo.enquiryServed Nfo.selectServed toldServed
+nfo-number p s (Enquiry adr q) = first-by answerNumber servedNumber (keeping p s) (λ a. refl) (Nfo.enquiryLines p adr (Nfo.rowNamed q)) (toldServed p s (theRow (Nfo.rowNamed q)))
+nfo-number p s (Select adr q v) =
+    first-by answerNumber servedNumber (keeping p s) (λ a. refl) (Nfo.nameLines p adr (Nfo.rowNamed q)) (Nfo.rowSelected p s adr (theRow (Nfo.rowNamed q)) v)
+    ∙ ap (firstOf (saying answerNumber (Nfo.nameLines p adr (Nfo.rowNamed q)))) (row-number p s adr (theRow (Nfo.rowNamed q)) v)
+
+-- a number of a choice is the choice of the numbers
+of-pick : {B : Type 0} (count : B → ℕ) (t : Bool) (x y : B) → count (pick t x y) ≡ pick t (count x) (count y)
+of-pick count true x y = refl
+of-pick count false x y = refl
+
+module _ (p : Plant) (s : ℕ) where
+  task-number : (row : Row) (q : Request) (u : List ℕ) → servedNumber (Modbus.done p s (Modbus.taskAt row q u)) ≡ firstOf (saying answerNumber (changeLines p row q u)) 0
+  unfolding Modbus.done toldServed
+  task-number row (Read f r n) u = refl
+  task-number row (One r w) u = wrote-number p s (row .0) w
+  task-number row (Many r n l) u = wrote-number p s (row .0) (longAt u (l .from))
+  task-number row (Malformed f) u = refl
+  task-number row (Unknown f) u = refl
+
+  request-number : (st a : ℕ) (q : Request) (u : List ℕ)
+      → servedNumber (Modbus.done p s (Modbus.taskOf st a q u)) ≡ firstOf (saying answerNumber (Modbus.unitLines st a q ++ changeLines p (theRow (Modbus.rowAsked q)) q u)) 0
+  unfolding Modbus.taskOf Modbus.done
+  request-number st a q u =
+      of-pick (λ t. servedNumber (Modbus.done p s t)) (not (Modbus.reachesUs st a)) _ _
+      ∙ ap (pick (not (Modbus.reachesUs st a)) 1) (of-pick (λ t. servedNumber (Modbus.done p s t)) (Modbus.isUnknown q) _ _
+      ∙ ap (pick (Modbus.isUnknown q) 9) (of-pick (λ t. servedNumber (Modbus.done p s t)) (both (Modbus.toAll a) (Modbus.asksRead q)) _ _
+      ∙ ap (pick (both (Modbus.toAll a) (Modbus.asksRead q)) 1) (of-pick (λ t. servedNumber (Modbus.done p s t)) (Modbus.isMalformed q) _ _
+      ∙ ap (pick (Modbus.isMalformed q) 8) (of-pick (λ t. servedNumber (Modbus.done p s t)) (isNone (Modbus.rowAsked q)) _ _
+      ∙ ap (pick (isNone (Modbus.rowAsked q)) 2) (task-number (theRow (Modbus.rowAsked q)) q u)))))
+
+pub modbus-number : (p : Plant) (s st a : ℕ) (u : List ℕ) → servedNumber (Modbus.served p s st a u) ≡ firstOf (saying answerNumber (modbusOrder p st a u)) 0
+unfolding Modbus.served
+modbus-number p s st a u = request-number p s st a (requestOf u) u
+
+-- ---- a call
+-- a line of the protocol's own, and then the message
+own : (t : Bool) (x y : Received) (o : Outcome) (s : Served) (ls : List (Line Answer)) → x .outcome ≡ Outcomes.Served (s .answer) → y .outcome ≡ o
+    → servedNumber s ≡ firstOf (saying answerNumber ls) 0 → numberIn (pick t x y) ≡ firstOf (saying numberOf (when (not t) o ∷ saying Outcomes.Served ls)) 0
+own true x y o s ls e f h = ap numberOf e ∙ h ∙ sym (first-served ls)
+own false x y o s ls e f h = ap numberOf f
+
+-- 10 first, whatever the protocol is
+by-protocol : (t e f : Bool) (s x y z : Received) (ls ms ns : List (Line Outcome)) → numberIn s ≡ 10
+    → numberIn x ≡ firstOf (saying numberOf ls) 0 → numberIn y ≡ firstOf (saying numberOf ms) 0 → numberIn z ≡ firstOf (saying numberOf ns) 0
+    → numberIn (pick e (pick t s x) (pick f (pick t s y) (pick t s z))) ≡ firstOf (saying numberOf (when t Outcomes.ShortBuffer ∷ pick e ls (pick f ms ns))) 0
+by-protocol true true f s x y z ls ms ns h p q r = h
+by-protocol true false true s x y z ls ms ns h p q r = h
+by-protocol true false false s x y z ls ms ns h p q r = h
+by-protocol false true f s x y z ls ms ns h p q r = p
+by-protocol false false true s x y z ls ms ns h p q r = q
+by-protocol false false false s x y z ls ms ns h p q r = r
+
+module _ (c : Card) (bytes : List ℕ) (room : ℕ) where
+  rtu-number : numberIn (pick (frameHolds bytes) (Rtu.taken c bytes) (Rtu.spoilt c (length bytes))) ≡ firstOf (saying numberOf (rtuOrder c bytes)) 0
+  unfolding exchanged
+  rtu-number =
+      own (frameHolds bytes) (Rtu.taken c bytes) (Rtu.spoilt c (length bytes)) Outcomes.BadFrame (Rtu.exchangeOn c bytes .served)
+      (modbusOrder (c .plant) (c .station) (addressIn bytes) (unitIn bytes)) refl refl
+      (modbus-number (c .plant) (c .port .sioerr) (c .station) (addressIn bytes) (unitIn bytes))
+
+  ascii-number : (scan : Scan) → numberIn (byScan asciiStream c scan) ≡ firstOf (saying numberOf (asciiOrder c scan)) 0
+  unfolding exchanged waiting
+  ascii-number scan =
+      let m : List ℕ = bytesIn (held (scan .pending)) in
+      own (scan .taken) _ _ Outcomes.NothingTaken (asciiStream .served c (scan .pending)) (modbusOrder (c .plant) (c .station) (getD m 0 0) (unitAmong m)) refl refl
+      (modbus-number (c .plant) (c .port .sioerr) (c .station) (getD m 0 0) (unitAmong m))
+
+  serial-number : (scan : Scan) → numberIn (byScan nfoStream c scan) ≡ firstOf (saying numberOf (serialOrder c scan)) 0
+  unfolding waiting
+  serial-number scan =
+      own (scan .taken) _ _ Outcomes.NothingTaken (nfoStream .served c (scan .pending)) (nfoOrder (c .plant) (messageOf (scan .pending .bytes))) refl refl
+      (nfo-number (c .plant) (c .port .sioerr) (messageOf (scan .pending .bytes)))
+
+  pub received-number : numberIn (received c bytes room) ≡ firstOf (saying numberOf (callOrder c bytes room)) 0
+  unfolding received Rtu.rtuReceived asciiReceived nfoReceived
+  received-number =
+      by-protocol (ltb room 19) (eqb (c .port .protocol) 1) (eqb (c .port .protocol) 2) (tooShort c) _ _ _
+      (rtuOrder c bytes) (asciiOrder c (scanOf (asciiStream .feeding) c bytes)) (serialOrder c (scanOf (nfoStream .feeding) c bytes)) refl
+      rtu-number (ascii-number (scanOf (asciiStream .feeding) c bytes)) (serial-number (scanOf (nfoStream .feeding) c bytes))
