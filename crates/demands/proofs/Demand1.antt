@@ -24,9 +24,13 @@ use Rattle.master.specs.declared.Sent.the-variants.{Written, CannotBeSaid, Shor
 use Rattle.master.specs.Sent.{sentNumber, refusals, sentOf, bytesSent}
 use Rattle.base.proofs.Sets.{fitting-none}
 use Rattle.master.proofs.Sends.{sent-cases}
-use Rattle.demands.specs.Demand1.{callOrder, numberIn, Receiving, Refuses, Events, Writing, Demand1}
+use Rattle.demands.specs.Orders.{callOrder}
+use Rattle.demands.specs.Demand1.{numberIn, Receiving, Refuses, Events, Writing, Demand1, Replying}
 use Rattle.demands.proofs.Numbered.{gives, received-number}
 use Rattle.demands.proofs.Leaving.{received-leaves}
+use Rattle.nfo_service.specs.Reply as NfoReply
+use Rattle.modbus_service.specs.Reply as ModbusReply
+use Rattle.demands.proofs.Hearing.{hearing}
 
 -- ---- calls
 reply-fits : (c : Card) (bytes : List ℕ) (room : ℕ) → length (received c bytes room .reply) ≤ room
@@ -96,5 +100,10 @@ writing : Writing
 writing =
     record { number = λ s m room n. gives sentNumber (refusals s m room) (sentNumber (sentOf s m room)) n (sent-number s m room); unsent = unsent }
 
+-- ---- the replies of refusals
+replying : Replying
+unfolding NfoReply.replied NfoReply.repliedBy ModbusReply.replied ModbusReply.repliedBy
+replying = record { nfo = λ m x. refl; modbus = λ address unit x. refl }
+
 pub demand-1 : Demand1
-demand-1 = (receiving, events, writing)
+demand-1 = (receiving, replying, events, writing, hearing)

@@ -1,5 +1,6 @@
 -- What a call leaves, by its number. Assumes nothing.
 use mathlib.Core.Path.{_≡_, refl, ap, _∙_}
+use mathlib.Core.Logic.{inl, inr}
 use mathlib.Core.Bool.{Bool, true, false, true≢false}
 use mathlib.Core.List.{List, [], _∷_}
 use Prim.Native.Nat.{ℕ, _+_, _≤_}
@@ -44,7 +45,8 @@ use Rattle.nfo_port.specs.Receive.{nfoStream, nfoReceived}
 use Rattle.rtu_port.specs.Receive as Rtu
 use Rattle.ascii_port.specs.Receive.{replyText, asciiStream, asciiReceived}
 use Rattle.receive.specs.Receive.{received}
-use Rattle.demands.specs.Demand1.{scanOf, Leaves}
+use Rattle.demands.specs.Orders.{scanOf}
+use Rattle.demands.specs.Demand1.{Leaves}
 use Rattle.demands.specs.Demand3.{besides}
 use Rattle.demands.proofs.Numbered.{servedNumber}
 
@@ -95,6 +97,7 @@ module _ (c : Card) (count : ℕ) where
         other = λ e. absurd (omega (arith, e));
         refused = λ l h. absurd (omega (arith, h));
         done = λ e. absurd (omega (arith, e));
+        listed = inl (omega arith);
       }
 
   spoilt-leaves : Leaves c count (Rtu.spoilt c count)
@@ -106,6 +109,7 @@ module _ (c : Card) (count : ℕ) where
         other = λ e. absurd (omega (arith, e));
         refused = λ l h. absurd (omega (arith, h));
         done = λ e. absurd (omega (arith, e));
+        listed = inl (omega arith);
       }
 
   waiting-leaves : (scan : Scan) → scan .used ≡ count → Leaves c count (waiting c scan)
@@ -118,6 +122,7 @@ module _ (c : Card) (count : ℕ) where
         other = λ e. absurd (omega (arith, e));
         refused = λ l h. absurd (omega (arith, h));
         done = λ e. absurd (omega (arith, e));
+        listed = inr refl;
       }
 
   module _ (q : Pending) (used : ℕ) (reply : List ℕ) where
@@ -135,6 +140,7 @@ module _ (c : Card) (count : ℕ) where
           other = λ e. (other e .0, held-emptied q, other e .1);
           refused = λ l h. (refused l, held-emptied q);
           done = λ e. held-emptied q;
+          listed = inl (omega (arith, most));
         }
 
     by-answer : (p : Plant) (e : ℕ) (x : Answer) → Keeps (c .plant) (c .port .sioerr) (keeping p e x) → (x ≡ NotOurs → reply ≡ []) → Leaves c count (one (keeping p e x))

@@ -7,5 +7,6 @@ pub mod Replied
 pub mod Demand2
 pub mod Numbered
 pub mod Leaving
+pub mod Hearing
 pub mod Demand1
 pub mod Cases

@@ -47,7 +47,8 @@ use Rattle.nfo_port.specs.Receive.{nfoStream, nfoReceived}
 use Rattle.rtu_port.specs.Receive as Rtu
 use Rattle.ascii_port.specs.Receive.{asciiStream, asciiReceived}
 use Rattle.receive.specs.Receive.{received}
-use Rattle.demands.specs.Demand1.{Gives, nfoOrder, changeLines, modbusOrder, scanOf, serialOrder, asciiOrder, rtuOrder, callOrder, numberIn}
+use Rattle.demands.specs.Orders.{Gives, nfoOrder, changeLines, modbusOrder, scanOf, serialOrder, asciiOrder, rtuOrder, callOrder}
+use Rattle.demands.specs.Demand1.{numberIn}
 
 -- ---- orders, and the number of the first line that applies
 module _ {A : Type 0} (number : A → ℕ) where

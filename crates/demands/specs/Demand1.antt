@@ -3,109 +3,51 @@
 -- That the rest holds is `demand-1`, in proofs/Demand1.antt. Assumes nothing.
 use mathlib.Core.Path.{_≡_}
 use mathlib.Core.Logic.{_⊎_, _↔_}
-use mathlib.Core.Bool.{Bool, true, false, not}
-use mathlib.Core.List.{List, [], _∷_, _++_}
-use Prim.Native.Nat.{ℕ, _≤_}
-use lib.Dec.{eqb, ltb}
-use lib.ListN.{length, getD}
+use mathlib.Core.Bool.{Bool, not}
+use mathlib.Core.List.{List, [], _∷_}
+use Prim.Native.Nat.{ℕ, _≤_, _+_, _<_}
+use lib.Dec.{ltb}
+use lib.ListN.{length}
 use Rattle.base.specs.Choice.{pick, either}
-use Rattle.base.specs.Order.{Line, when, saying}
-use Rattle.table.specs.declared.labels.Row.{Row}
-use Rattle.table.specs.declared.labels.Found.{Found}
-use Rattle.drive.specs.declared.plant.Plant.{Plant}
+use Rattle.base.specs.Order.{when}
 use Rattle.drive.specs.declared.events.Measured.{Measured}
 use Rattle.drive.specs.Events.{isFault}
-use Rattle.answers.specs.declared.Answer.{Answer}
-use Rattle.answers.specs.declared.Answer.the-variants.{Refused}
-use Rattle.permit.specs.Refusals.{readLine, writeLines}
-use Rattle.service.specs.Serving.{theRow}
-use Rattle.pending.specs.declared.Scan.{Scan}
+use Rattle.answers.specs.declared.Answer.the-variants as Answers
+use Rattle.answers.specs.declared.Refusal.{Refusal}
 use Rattle.pending.specs.Held.{held}
-use Rattle.pending.specs.Scanning.{Feeding, scanFrom}
-use Rattle.nfo.specs.Parts.{messageOf}
-use Rattle.nfo.specs.declared.message.Message.{Message}
-use Rattle.nfo.specs.declared.message.Message.the-variants.{Enquiry, Select}
-use Rattle.nfo.specs.declared.message.Value.{Value}
-use Rattle.nfo_service.specs.Serve as Nfo
-use Rattle.modbus.specs.Words.{longAt}
-use Rattle.modbus.specs.Request.{requestOf}
-use Rattle.modbus.specs.declared.requests.Request.{Request}
-use Rattle.modbus.specs.declared.requests.Request.the-variants.{Read, One, Many, Malformed, Unknown}
-use Rattle.modbus_service.specs.Serve as Modbus
-use Rattle.rtu.specs.Rtu.{frameHolds, addressIn, unitIn}
-use Rattle.ascii.specs.Ascii.{bytesIn}
-use Rattle.ascii_scan.specs.Parts.{unitAmong}
 use Rattle.card.specs.State.{cardSum}
 use Rattle.card.specs.Events.{faultRaised, causeEnded, din1Set, measuredSet, parityTold, ticked}
 use Rattle.card.specs.Outcome.{numberOf}
 use Rattle.card.specs.declared.state.Card.{Card}
 use Rattle.card.specs.declared.events.After.{After}
-use Rattle.card.specs.declared.outcome.Outcome.{Outcome}
-use Rattle.card.specs.declared.outcome.Outcome.the-variants.{Done, Served, ShortBuffer, BadFrame, NoSuchEvent, NothingTaken}
+use Rattle.card.specs.declared.outcome.Outcome.the-variants.{Done, NoSuchEvent}
 use Rattle.turn.specs.Turn.{Received}
-use Rattle.nfo_port.specs.Receive.{nfoStream}
-use Rattle.ascii_port.specs.Receive.{asciiStream}
 use Rattle.receive.specs.Receive.{received}
 use Rattle.master.specs.Sent.{sentNumber, refusals, sentOf, bytesSent}
+use Rattle.base.specs.Bytes.{Bytes}
+use Rattle.nfo.specs.declared.message.Message.{Message}
+use Rattle.nfo_service.specs.Serve as Nfo
+use Rattle.nfo_service.specs.Reply as NfoReply
+use Rattle.modbus.specs.Request.{requestOf}
+use Rattle.modbus.specs.declared.answers.Answer.the-variants.{Exception}
+use Rattle.modbus_service.specs.Serve as Modbus
+use Rattle.modbus_service.specs.Reply as ModbusReply
+use Rattle.modbus_service.specs.declared.Reply.the-variants.{Nothing, Data}
+use Rattle.nfo.specs.Replies.{replyOf, ackOf, nakOf}
+use Rattle.rtu.specs.Rtu.{rtuOf}
+use Rattle.ascii.specs.Ascii.{asciiOf}
+use Rattle.master_nfo.specs.Replies.{readOf}
+use Rattle.master_nfo.specs.Replies as SerialReplies
+use Rattle.master_nfo.specs.declared.replies.Reply as Serial
+use Rattle.master_nfo.specs.declared.replies.Reply.the-variants as Serials
+use Rattle.master_reply.specs.Reply.{replyNumber, registersOf, heard}
+use Rattle.master_reply.specs.Told.{addressOf, replyUnit, IsReply, InWidth, IsMessage}
+use Rattle.master_reply.specs.declared.Reply.{Reply}
+use Rattle.master_reply.specs.declared.Heard.{Heard}
+use Rattle.master_rtu.specs.Heard.{rtuHeard}
+use Rattle.master_ascii.specs.Heard.{asciiHeard}
+use Rattle.demands.specs.Orders.{Gives, callOrder}
 use Rattle.demands.specs.Demand3.{besides}
-
--- ---- "given exactly then"
--- an order gives a number: that of the first line that applies; and 0, "done", where none does
-abbrev pub Gives : {A : Type 0} → (A → ℕ) → List (Line A) → ℕ → Type 0
-Gives number [] n = n ≡ 0
-Gives number (l ∷ ls) n = ((l .test ≡ true) × (number (l .answer) ≡ n)) ⊎ ((l .test ≡ false) × Gives number ls n)
-
--- ---- the orders of a message, each line with its "When"
--- "Order: .. NFO 1, 2, 3, 8, 4, 5, 6, 7"; the broadcast that clears 14 has "outcome 0, at any MODE", so it passes by 4 to 7
-abbrev pub selectOrder : Plant → ℕ → Found → Value → List (Line Answer)
-selectOrder p adr found value =
-    Nfo.nameLines p adr found
-    ++ (Nfo.rowLines (theRow found) value
-    ++ pick (Nfo.stops p adr (theRow found .0) (Nfo.theWord value)) [] (saying Refused (writeLines p (theRow found .0) (Nfo.theWord value))))
-
-abbrev pub nfoOrder : Plant → Message → List (Line Answer)
-nfoOrder p (Enquiry adr parameter) = Nfo.enquiryLines p adr (Nfo.rowNamed parameter)
-nfoOrder p (Select adr parameter value) = selectOrder p adr (Nfo.rowNamed parameter) value
-
--- "Modbus .. 1 by address, 9, 1 for a broadcast read, 8, 2, 3, 4, 5, 6, 7": 3 to 7 are of a write, by 06 or 16
-abbrev pub changeLines : Plant → Row → Request → List ℕ → List (Line Answer)
-changeLines p row (Read function first count) unit = []
-changeLines p row (One register word) unit = saying Refused (readLine (row .0) ∷ writeLines p (row .0) word)
-changeLines p row (Many first count place) unit = saying Refused (readLine (row .0) ∷ writeLines p (row .0) (longAt unit (place .from)))
-changeLines p row (Malformed function) unit = []
-changeLines p row (Unknown function) unit = []
-
-abbrev pub modbusOrder : Plant → (station address : ℕ) → List ℕ → List (Line Answer)
-modbusOrder p station address unit =
-    Modbus.unitLines station address (requestOf unit) ++ changeLines p (theRow (Modbus.rowAsked (requestOf unit))) (requestOf unit) unit
-
--- ---- the order of a call
--- the bytes of a stream, up to the end of the first message: whether one was taken, and the bytes held then
-abbrev pub scanOf : Feeding → Card → List ℕ → Scan
-scanOf feeding c bytes = scanFrom feeding (c .port .pending) 0 bytes
-
--- "15: nothing taken", and then the message's own
-abbrev pub streamOrder : Scan → List (Line Answer) → List (Line Outcome)
-streamOrder scan lines = when (not (scan .taken)) NothingTaken ∷ saying Served lines
-
-abbrev pub serialOrder : Card → Scan → List (Line Outcome)
-serialOrder c scan = streamOrder scan (nfoOrder (c .plant) (messageOf (scan .pending .bytes)))
-
-abbrev pub asciiOrder : Card → Scan → List (Line Outcome)
-asciiOrder c scan =
-    let message : List ℕ = bytesIn (held (scan .pending)) in
-    streamOrder scan (modbusOrder (c .plant) (c .station) (getD message 0 0) (unitAmong message))
-
--- "Modbus 11": "RTU length or CRC wrong"
-abbrev pub rtuOrder : Card → List ℕ → List (Line Outcome)
-rtuOrder c frame = when (not (frameHolds frame)) BadFrame ∷ saying Served (modbusOrder (c .plant) (c .station) (addressIn frame) (unitIn frame))
-
--- "Order: 10 first, in every reply call"; "A reply buffer under 19 bytes is 10"
-abbrev pub callOrder : Card → List ℕ → ℕ → List (Line Outcome)
-callOrder c bytes room =
-    when (ltb room 19) ShortBuffer
-    ∷ pick (eqb (c .port .protocol) 1) (rtuOrder c bytes)
-    (pick (eqb (c .port .protocol) 2) (asciiOrder c (scanOf (asciiStream .feeding) c bytes)) (serialOrder c (scanOf (nfoStream .feeding) c bytes)))
 
 -- ---- what each number leaves
 abbrev pub numberIn : Received → ℕ
@@ -128,12 +70,21 @@ pub record Leaves (c : Card) (count : ℕ) (r : Received) : Type 0 where
   -- "Refusals 2 to 9 change no state but the time sum"
   pub refused : 2 ≤ numberIn r → numberIn r ≤ 9 → (besides (r .card) ≡ besides (cardSum 0 c)) × Taken r
   pub done : numberIn r ≡ 0 → Taken r
+  -- 12 is the host's, 13 and 14 are the master's
+  pub listed : (numberIn r ≤ 11) ⊎ (numberIn r ≡ 15)
 
 pub record Receiving : Type 0 where
   -- "No bytes, lengths, numbers or lent buffers can break it": the bytes used are there, and a reply fits
   pub within : (c : Card) (bytes : List ℕ) (room : ℕ) → (received c bytes room .used ≤ length bytes) × (length (received c bytes room .reply) ≤ room)
   pub number : (c : Card) (bytes : List ℕ) (room n : ℕ) → (numberIn (received c bytes room) ≡ n) ↔ Gives numberOf (callOrder c bytes room) n
   pub leaves : (c : Card) (bytes : List ℕ) (room : ℕ) → Leaves c (length bytes) (received c bytes room)
+
+-- the columns of the reply: NAK, or the exception of "Modbus exception". "A refused broadcast gets no reply"
+pub record Replying : Type 0 where
+  pub nfo : (m : Message) (x : Refusal) → NfoReply.replied m (Answers.Refused x) ≡ pick (Nfo.toAll (NfoReply.adrIn m)) [] (nakOf (NfoReply.adrIn m))
+  pub modbus : (address : ℕ) (unit : List ℕ) (x : Refusal)
+      → ModbusReply.replied address unit (Answers.Refused x)
+      ≡ pick (Modbus.toAll address) Nothing (Data (Exception (ModbusReply.headOf (requestOf unit) .function) (ModbusReply.exceptionOf x)))
 
 -- ---- the host's events
 -- "12: host event number not allowed", exactly where the test says so; and then nothing changes
@@ -158,5 +109,29 @@ pub record Writing : Type 0 where
       → (sentNumber (sentOf sayable message room) ≡ n) ↔ Gives sentNumber (refusals sayable message room) n
   pub unsent : (sayable : Bool) (message : List ℕ) (room : ℕ) → (sentNumber (sentOf sayable message room) ≡ 0 → ⊥) → bytesSent sayable message room ≡ []
 
+-- ---- the master's readers
+-- "Else 14, and only then": the number is 0 where the bytes are a reply's, and 14 where they are not
+abbrev pub ZeroOr14 : ℕ → Type 0 → Type 0
+ZeroOr14 n Is = ((n ≡ 0) ↔ Is) × ((n ≡ 14) ↔ (Is → ⊥))
+
+-- of NFO serial: "a reply must fill its slice exactly, with the shape, check and hex above"
+abbrev pub IsSerial : Serial.Reply → List ℕ → Type 0
+IsSerial (Serials.Told address e word) bytes = (address < 96) × (e .0 < 65536) × (word < 65536) × (bytes ≡ replyOf (address + 32) (e .0) word)
+IsSerial (Serials.Acknowledged address) bytes = (address < 96) × (bytes ≡ ackOf (address + 32))
+IsSerial (Serials.Refused address) bytes = (address < 96) × (bytes ≡ nakOf (address + 32))
+IsSerial Serials.NotAReply bytes = ⊥
+
+-- of Modbus: "address 1 to 247 and a normal answer of the four functions .. or exception", in the messages that its line makes of an address and a unit
+pub record Hears (made : ℕ → List ℕ → List ℕ) (hear : List ℕ → Heard) : Type 0 where
+  pub only : (bytes : List ℕ) → Bytes bytes → ZeroOr14 (replyNumber (hear bytes .reply)) (IsMessage made bytes (hear bytes))
+  pub every : (r : Reply) (words : List ℕ) → IsReply r → length words ≡ registersOf r → InWidth r words
+      → hear (made (addressOf r) (replyUnit r words)) ≡ heard r words
+
+pub record Hearing : Type 0 where
+  pub serial-only : (bytes : List ℕ) → ZeroOr14 (SerialReplies.replyNumber (readOf bytes)) (IsSerial (readOf bytes) bytes)
+  pub serial-every : (r : Serial.Reply) (bytes : List ℕ) → IsSerial r bytes → readOf bytes ≡ r
+  pub rtu : Hears rtuOf rtuHeard
+  pub ascii : Hears asciiOf asciiHeard
+
 abbrev pub Demand1 : Type 0
-Demand1 = Receiving × Events × Writing
+Demand1 = Receiving × Replying × Events × Writing × Hearing

@@ -1,4 +1,5 @@
 pub mod Calls
+pub mod Orders
 pub mod Demand1
 pub mod Demand2
 pub mod Demand3
