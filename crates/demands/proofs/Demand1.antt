@@ -10,26 +10,26 @@ use lib.ListN.{length}
 use Rattle.base.specs.Choice.{pick, either}
 use Rattle.base.specs.Order.{when, firstOf, saying}
 use Rattle.base.proofs.Tests.{pick-yes}
+use Rattle.base.proofs.Sets.{fitting-none}
 use Rattle.drive.specs.declared.plant.Plant.{Plant}
 use Rattle.drive.specs.Events.{isFault, event, raised, ended}
+use Rattle.nfo_service.specs.Reply as NfoReply
 use Rattle.card.specs.Events.{happened, refused, told, faultRaised, causeEnded, din1Set, measuredSet, parityTold, ticked}
 use Rattle.card.specs.Outcome.{numberOf}
 use Rattle.card.specs.declared.state.Card.{Card}
 use Rattle.card.specs.declared.events.After.{After}
 use Rattle.card.specs.declared.outcome.Outcome.the-variants.{Done, NoSuchEvent}
-use Rattle.receive.specs.Receive.{received}
-use Rattle.receive.proofs.Laws.{received-used, received-short}
 use Rattle.master.specs.declared.Sent.{Sent}
 use Rattle.master.specs.declared.Sent.the-variants.{Written, CannotBeSaid, ShortBuffer}
 use Rattle.master.specs.Sent.{sentNumber, refusals, sentOf, bytesSent}
-use Rattle.base.proofs.Sets.{fitting-none}
 use Rattle.master.proofs.Sends.{sent-cases}
+use Rattle.modbus_service.specs.Reply as ModbusReply
+use Rattle.receive.specs.Receive.{received}
+use Rattle.receive.proofs.Laws.{received-used, received-short}
 use Rattle.demands.specs.Orders.{callOrder}
 use Rattle.demands.specs.Demand1.{numberIn, Receiving, Refuses, Events, Writing, Demand1, Replying}
 use Rattle.demands.proofs.Numbered.{gives, received-number}
 use Rattle.demands.proofs.Leaving.{received-leaves}
-use Rattle.nfo_service.specs.Reply as NfoReply
-use Rattle.modbus_service.specs.Reply as ModbusReply
 use Rattle.demands.proofs.Hearing.{hearing}
 
 -- ---- calls

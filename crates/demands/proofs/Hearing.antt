@@ -7,11 +7,6 @@ use native.Mathlib.Omega.{arith}
 use Rattle.nfo.proofs.Address.{adr-fits}
 use Rattle.rtu.specs.Rtu.{rtuOf}
 use Rattle.ascii.specs.Ascii.{asciiOf}
-use Rattle.master_nfo.specs.Replies as serial
-use Rattle.master_nfo.specs.Replies.{readOf}
-use Rattle.master_nfo.specs.declared.replies.Reply as Serial
-use Rattle.master_nfo.specs.declared.replies.Reply.the-variants as Serials
-use Rattle.master_nfo.proofs.Answered.{reply-read, ack-read, nak-read, told-only, acknowledged-only, refused-only}
 use Rattle.master_reply.specs.Reply.{replyNumber}
 use Rattle.master_reply.specs.Told.{IsReply, IsMessage}
 use Rattle.master_reply.specs.declared.Reply.{Reply}
@@ -21,6 +16,11 @@ use Rattle.master_rtu.specs.Heard.{rtuHeard}
 use Rattle.master_rtu.proofs.RoundTrip as Frames
 use Rattle.master_ascii.specs.Heard.{asciiHeard}
 use Rattle.master_ascii.proofs.RoundTrip as Texts
+use Rattle.master_nfo.specs.Replies as serial
+use Rattle.master_nfo.specs.Replies.{readOf}
+use Rattle.master_nfo.specs.declared.replies.Reply as Serial
+use Rattle.master_nfo.specs.declared.replies.Reply.the-variants as Serials
+use Rattle.master_nfo.proofs.Answered.{reply-read, ack-read, nak-read, told-only, acknowledged-only, refused-only}
 use Rattle.demands.specs.Demand1.{ZeroOr14, IsSerial, Hearing}
 
 -- where it is one of the two

@@ -29,16 +29,16 @@ use Rattle.nfo.specs.declared.message.Message.{Message}
 use Rattle.nfo.specs.declared.message.Message.the-variants.{Enquiry, Select}
 use Rattle.nfo_service.specs.Serve as Nfo
 use Rattle.nfo_service.specs.Reply as NfoReply
+use Rattle.card.specs.State.{cardSum}
+use Rattle.card.specs.declared.state.Card.{Card}
+use Rattle.rtu.specs.Rtu.{frameHolds, addressIn, unitIn}
+use Rattle.ascii.specs.Ascii.{bytesIn}
+use Rattle.ascii_scan.specs.Parts.{unitAmong}
 use Rattle.modbus_service.specs.Serve as Modbus
 use Rattle.modbus_service.specs.Reply as ModbusReply
 use Rattle.modbus_service.specs.declared.Reply.{Reply}
 use Rattle.modbus_service.specs.declared.Reply.the-variants.{Nothing}
 use Rattle.modbus_service.proofs.Laws.{served-keeps}
-use Rattle.rtu.specs.Rtu.{frameHolds, addressIn, unitIn}
-use Rattle.ascii.specs.Ascii.{bytesIn}
-use Rattle.ascii_scan.specs.Parts.{unitAmong}
-use Rattle.card.specs.State.{cardSum}
-use Rattle.card.specs.declared.state.Card.{Card}
 use Rattle.turn.specs.Turn.{Received, tooShort, waiting, cardAfter, answered}
 use Rattle.turn.specs.Stream.{Stream, streamed}
 use Rattle.nfo_port.specs.Receive.{nfoStream, nfoReceived}

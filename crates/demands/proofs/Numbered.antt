@@ -21,26 +21,26 @@ use Rattle.permit.specs.Permit.{permitOf}
 use Rattle.writing.specs.Write.{written}
 use Rattle.service.specs.Serving.{isNone, theRow, keeping, permitted, toldServed, wroteServed}
 use Rattle.service.specs.declared.Served.{Served}
+use Rattle.pending.specs.declared.Scan.{Scan}
+use Rattle.pending.specs.Held.{held}
 use Rattle.nfo.specs.declared.message.Message.{Message}
 use Rattle.nfo.specs.declared.message.Message.the-variants.{Enquiry, Select}
 use Rattle.nfo.specs.declared.message.Value.{Value}
-use Rattle.nfo_service.specs.Serve as Nfo
-use Rattle.modbus.specs.Words.{longAt}
-use Rattle.modbus.specs.Request.{requestOf}
-use Rattle.modbus.specs.declared.requests.Request.{Request}
-use Rattle.modbus.specs.declared.requests.Request.the-variants.{Read, One, Many, Malformed, Unknown}
-use Rattle.modbus_service.specs.Serve as Modbus
-use Rattle.modbus_service.specs.Reply.{exchanged}
-use Rattle.rtu.specs.Rtu.{frameHolds, addressIn, unitIn}
-use Rattle.ascii.specs.Ascii.{bytesIn}
-use Rattle.ascii_scan.specs.Parts.{unitAmong}
-use Rattle.pending.specs.declared.Scan.{Scan}
-use Rattle.pending.specs.Held.{held}
 use Rattle.nfo.specs.Parts.{messageOf}
+use Rattle.nfo_service.specs.Serve as Nfo
 use Rattle.card.specs.Outcome.{numberOf}
 use Rattle.card.specs.declared.state.Card.{Card}
 use Rattle.card.specs.declared.outcome.Outcome.{Outcome}
 use Rattle.card.specs.declared.outcome.Outcome.the-variants as Outcomes
+use Rattle.modbus.specs.Words.{longAt}
+use Rattle.modbus.specs.Request.{requestOf}
+use Rattle.modbus.specs.declared.requests.Request.{Request}
+use Rattle.modbus.specs.declared.requests.Request.the-variants.{Read, One, Many, Malformed, Unknown}
+use Rattle.rtu.specs.Rtu.{frameHolds, addressIn, unitIn}
+use Rattle.ascii.specs.Ascii.{bytesIn}
+use Rattle.ascii_scan.specs.Parts.{unitAmong}
+use Rattle.modbus_service.specs.Serve as Modbus
+use Rattle.modbus_service.specs.Reply.{exchanged}
 use Rattle.turn.specs.Turn.{Received, tooShort, waiting}
 use Rattle.turn.specs.Stream.{byScan}
 use Rattle.nfo_port.specs.Receive.{nfoStream, nfoReceived}

@@ -10,42 +10,42 @@ use lib.Dec.{ltb}
 use lib.ListN.{length}
 use Rattle.base.specs.Choice.{pick, either}
 use Rattle.base.specs.Order.{when}
+use Rattle.base.specs.Bytes.{Bytes}
 use Rattle.drive.specs.declared.events.Measured.{Measured}
 use Rattle.drive.specs.Events.{isFault}
 use Rattle.answers.specs.declared.Answer.the-variants as Answers
 use Rattle.answers.specs.declared.Refusal.{Refusal}
 use Rattle.pending.specs.Held.{held}
+use Rattle.nfo.specs.declared.message.Message.{Message}
+use Rattle.nfo.specs.Replies.{replyOf, ackOf, nakOf}
+use Rattle.nfo_service.specs.Serve as Nfo
+use Rattle.nfo_service.specs.Reply as NfoReply
 use Rattle.card.specs.State.{cardSum}
 use Rattle.card.specs.Events.{faultRaised, causeEnded, din1Set, measuredSet, parityTold, ticked}
 use Rattle.card.specs.Outcome.{numberOf}
 use Rattle.card.specs.declared.state.Card.{Card}
 use Rattle.card.specs.declared.events.After.{After}
 use Rattle.card.specs.declared.outcome.Outcome.the-variants.{Done, NoSuchEvent}
-use Rattle.turn.specs.Turn.{Received}
-use Rattle.receive.specs.Receive.{received}
-use Rattle.master.specs.Sent.{sentNumber, refusals, sentOf, bytesSent}
-use Rattle.base.specs.Bytes.{Bytes}
-use Rattle.nfo.specs.declared.message.Message.{Message}
-use Rattle.nfo_service.specs.Serve as Nfo
-use Rattle.nfo_service.specs.Reply as NfoReply
 use Rattle.modbus.specs.Request.{requestOf}
 use Rattle.modbus.specs.declared.answers.Answer.the-variants.{Exception}
-use Rattle.modbus_service.specs.Serve as Modbus
-use Rattle.modbus_service.specs.Reply as ModbusReply
-use Rattle.modbus_service.specs.declared.Reply.the-variants.{Nothing, Data}
-use Rattle.nfo.specs.Replies.{replyOf, ackOf, nakOf}
 use Rattle.rtu.specs.Rtu.{rtuOf}
 use Rattle.ascii.specs.Ascii.{asciiOf}
-use Rattle.master_nfo.specs.Replies.{readOf}
-use Rattle.master_nfo.specs.Replies as SerialReplies
-use Rattle.master_nfo.specs.declared.replies.Reply as Serial
-use Rattle.master_nfo.specs.declared.replies.Reply.the-variants as Serials
+use Rattle.master.specs.Sent.{sentNumber, refusals, sentOf, bytesSent}
 use Rattle.master_reply.specs.Reply.{replyNumber, registersOf, heard}
 use Rattle.master_reply.specs.Told.{addressOf, replyUnit, IsReply, InWidth, IsMessage}
 use Rattle.master_reply.specs.declared.Reply.{Reply}
 use Rattle.master_reply.specs.declared.Heard.{Heard}
 use Rattle.master_rtu.specs.Heard.{rtuHeard}
 use Rattle.master_ascii.specs.Heard.{asciiHeard}
+use Rattle.master_nfo.specs.Replies.{readOf}
+use Rattle.master_nfo.specs.Replies as SerialReplies
+use Rattle.master_nfo.specs.declared.replies.Reply as Serial
+use Rattle.master_nfo.specs.declared.replies.Reply.the-variants as Serials
+use Rattle.modbus_service.specs.Serve as Modbus
+use Rattle.modbus_service.specs.Reply as ModbusReply
+use Rattle.modbus_service.specs.declared.Reply.the-variants.{Nothing, Data}
+use Rattle.turn.specs.Turn.{Received}
+use Rattle.receive.specs.Receive.{received}
 use Rattle.demands.specs.Orders.{Gives, callOrder}
 use Rattle.demands.specs.Demand3.{besides}
 
@@ -54,10 +54,10 @@ abbrev pub numberIn : Received → ℕ
 numberIn r = numberOf (r .outcome)
 
 -- "what is pending after a taken message is empty"
-abbrev pub Taken : Received → Type 0
-Taken r = held (r .card .port .pending) ≡ []
+abbrev pub Cleared : Received → Type 0
+Cleared r = held (r .card .port .pending) ≡ []
 
--- of a call of the card c on so many bytes
+-- of a call of the card c on so many bytes. Where there is no reply, no byte of the buffer changes: after a call it is `front reply buffer`
 pub record Leaves (c : Card) (count : ℕ) (r : Received) : Type 0 where
   -- "A reply buffer under 19 bytes is 10, with no byte used"; "1 and 10 to 14 [change] none"
   pub short : numberIn r ≡ 10 → (r .card ≡ c) × (r .used ≡ 0) × (r .reply ≡ [])
@@ -66,17 +66,19 @@ pub record Leaves (c : Card) (count : ℕ) (r : Received) : Type 0 where
   -- "A stream call uses bytes up to the end of the first message taken, or all"; "15: nothing taken, bytes pending or dropped"
   pub waiting : numberIn r ≡ 15 → (besides (r .card) ≡ besides c) × (r .used ≡ count) × (r .reply ≡ [])
   -- "1: other address, or broadcast read: none"
-  pub other : numberIn r ≡ 1 → (besides (r .card) ≡ besides c) × Taken r × (r .reply ≡ [])
+  pub other : numberIn r ≡ 1 → (besides (r .card) ≡ besides c) × Cleared r × (r .reply ≡ [])
   -- "Refusals 2 to 9 change no state but the time sum"
-  pub refused : 2 ≤ numberIn r → numberIn r ≤ 9 → (besides (r .card) ≡ besides (cardSum 0 c)) × Taken r
-  pub done : numberIn r ≡ 0 → Taken r
+  pub refused : 2 ≤ numberIn r → numberIn r ≤ 9 → (besides (r .card) ≡ besides (cardSum 0 c)) × Cleared r
+  pub done : numberIn r ≡ 0 → Cleared r
   -- 12 is the host's, 13 and 14 are the master's
   pub listed : (numberIn r ≤ 11) ⊎ (numberIn r ≡ 15)
 
 pub record Receiving : Type 0 where
   -- "No bytes, lengths, numbers or lent buffers can break it": the bytes used are there, and a reply fits
   pub within : (c : Card) (bytes : List ℕ) (room : ℕ) → (received c bytes room .used ≤ length bytes) × (length (received c bytes room .reply) ≤ room)
+  -- "Each refusal has document 01's number, is given exactly then": the first line of the order that applies
   pub number : (c : Card) (bytes : List ℕ) (room n : ℕ) → (numberIn (received c bytes room) ≡ n) ↔ Gives numberOf (callOrder c bytes room) n
+  -- "and leaves settings, drive state and reply buffer as 01 says"
   pub leaves : (c : Card) (bytes : List ℕ) (room : ℕ) → Leaves c (length bytes) (received c bytes room)
 
 -- the columns of the reply: NAK, or the exception of "Modbus exception". "A refused broadcast gets no reply"
@@ -127,6 +129,7 @@ pub record Hears (made : ℕ → List ℕ → List ℕ) (hear : List ℕ → Hea
   pub every : (r : Reply) (words : List ℕ) → IsReply r → length words ≡ registersOf r → InWidth r words
       → hear (made (addressOf r) (replyUnit r words)) ≡ heard r words
 
+-- each tells of what it reads, and reads every reply there is
 pub record Hearing : Type 0 where
   pub serial-only : (bytes : List ℕ) → ZeroOr14 (SerialReplies.replyNumber (readOf bytes)) (IsSerial (readOf bytes) bytes)
   pub serial-every : (r : Serial.Reply) (bytes : List ℕ) → IsSerial r bytes → readOf bytes ≡ r

@@ -1,6 +1,6 @@
 -- Document 01's orders, of a message and of a call, each one list: "Order: 10 first, in every reply call; NFO 1, 2, 3, 8, 4, 5, 6, 7; Modbus 11, 1 by
 -- address, 9, 1 for a broadcast read, 8, 2, 3, 4, 5, 6, 7". Assumes nothing.
-use mathlib.Core.Path.{_≡_}
+use mathlib.Core.Path.{_≡_, refl}
 use mathlib.Core.Logic.{_⊎_}
 use mathlib.Core.Bool.{true, false, not}
 use mathlib.Core.List.{List, [], _∷_, _++_}
@@ -8,12 +8,14 @@ use Prim.Native.Nat.{ℕ}
 use lib.Dec.{eqb, ltb}
 use lib.ListN.{getD}
 use Rattle.base.specs.Choice.{pick}
-use Rattle.base.specs.Order.{Line, when, saying}
+use Rattle.base.specs.Order.{Line, when, saying, numbers}
 use Rattle.table.specs.declared.labels.Row.{Row}
+use Rattle.table.specs.declared.labels.Register.{Register}
 use Rattle.table.specs.declared.labels.Found.{Found}
 use Rattle.drive.specs.declared.plant.Plant.{Plant}
 use Rattle.answers.specs.declared.Answer.{Answer}
 use Rattle.answers.specs.declared.Answer.the-variants.{Refused}
+use Rattle.answers.specs.Answer.{answerNumber}
 use Rattle.permit.specs.Refusals.{readLine, writeLines}
 use Rattle.service.specs.Serving.{theRow}
 use Rattle.pending.specs.declared.Scan.{Scan}
@@ -24,17 +26,17 @@ use Rattle.nfo.specs.declared.message.Message.{Message}
 use Rattle.nfo.specs.declared.message.Message.the-variants.{Enquiry, Select}
 use Rattle.nfo.specs.declared.message.Value.{Value}
 use Rattle.nfo_service.specs.Serve as Nfo
+use Rattle.card.specs.declared.state.Card.{Card}
+use Rattle.card.specs.declared.outcome.Outcome.{Outcome}
+use Rattle.card.specs.declared.outcome.Outcome.the-variants.{Served, ShortBuffer, BadFrame, NothingTaken}
 use Rattle.modbus.specs.Words.{longAt}
 use Rattle.modbus.specs.Request.{requestOf}
 use Rattle.modbus.specs.declared.requests.Request.{Request}
 use Rattle.modbus.specs.declared.requests.Request.the-variants.{Read, One, Many, Malformed, Unknown}
-use Rattle.modbus_service.specs.Serve as Modbus
 use Rattle.rtu.specs.Rtu.{frameHolds, addressIn, unitIn}
 use Rattle.ascii.specs.Ascii.{bytesIn}
 use Rattle.ascii_scan.specs.Parts.{unitAmong}
-use Rattle.card.specs.declared.state.Card.{Card}
-use Rattle.card.specs.declared.outcome.Outcome.{Outcome}
-use Rattle.card.specs.declared.outcome.Outcome.the-variants.{Served, ShortBuffer, BadFrame, NothingTaken}
+use Rattle.modbus_service.specs.Serve as Modbus
 use Rattle.nfo_port.specs.Receive.{nfoStream}
 use Rattle.ascii_port.specs.Receive.{asciiStream}
 
@@ -52,6 +54,10 @@ selectOrder p adr found value =
     ++ (Nfo.rowLines (theRow found) value
     ++ pick (Nfo.stops p adr (theRow found .0) (Nfo.theWord value)) [] (saying Refused (writeLines p (theRow found .0) (Nfo.theWord value))))
 
+pub select-order : (p : Plant) (adr : ℕ) (found : Found) (value : Value) → Nfo.stops p adr (theRow found .0) (Nfo.theWord value) ≡ false
+    → numbers answerNumber (selectOrder p adr found value) ≡ 1 ∷ 2 ∷ 3 ∷ 8 ∷ 4 ∷ 5 ∷ 6 ∷ 7 ∷ []
+select-order p adr found value other = rw other
+
 abbrev pub nfoOrder : Plant → Message → List (Line Answer)
 nfoOrder p (Enquiry adr parameter) = Nfo.enquiryLines p adr (Nfo.rowNamed parameter)
 nfoOrder p (Select adr parameter value) = selectOrder p adr (Nfo.rowNamed parameter) value
@@ -64,9 +70,15 @@ changeLines p row (Many first count place) unit = saying Refused (readLine (row 
 changeLines p row (Malformed function) unit = []
 changeLines p row (Unknown function) unit = []
 
+abbrev pub requestOrder : Plant → (station address : ℕ) → Request → List ℕ → List (Line Answer)
+requestOrder p station address request unit = Modbus.unitLines station address request ++ changeLines p (theRow (Modbus.rowAsked request)) request unit
+
+pub one-order : (p : Plant) (station address : ℕ) (register : Register) (word : ℕ) (unit : List ℕ)
+    → numbers answerNumber (requestOrder p station address (One register word) unit) ≡ 1 ∷ 9 ∷ 1 ∷ 8 ∷ 2 ∷ 3 ∷ 4 ∷ 5 ∷ 6 ∷ 7 ∷ []
+one-order p station address register word unit = refl
+
 abbrev pub modbusOrder : Plant → (station address : ℕ) → List ℕ → List (Line Answer)
-modbusOrder p station address unit =
-    Modbus.unitLines station address (requestOf unit) ++ changeLines p (theRow (Modbus.rowAsked (requestOf unit))) (requestOf unit) unit
+modbusOrder p station address unit = requestOrder p station address (requestOf unit) unit
 
 -- ---- the order of a call
 -- the bytes of a stream, up to the end of the first message: whether one was taken, and the bytes held then
