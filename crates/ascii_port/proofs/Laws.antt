@@ -1,19 +1,15 @@
 -- A call on bytes of Modbus ASCII, case by case. Assumes nothing.
-use mathlib.Core.Path.{_≡_, refl, sym, ap, _∙_}
+use mathlib.Core.Path.{_≡_, refl, ap, _∙_}
 use mathlib.Core.List.{List}
 use Prim.Native.Nat.{ℕ, _-_, _≤_, _<_}
 use native.Mathlib.Omega.{arith}
 use lib.ListN.{length, getD, take, drop, length-append}
 use Rattle.base.specs.Buffers.{front}
-use Rattle.base.proofs.Sets.{front-none, take-front}
+use Rattle.base.proofs.Sets.{take-front}
 use Rattle.pending.specs.declared.Pending.{Pending}
 use Rattle.pending.specs.declared.Scan.{Scan}
 use Rattle.pending.specs.Held.{held}
-use Rattle.modbus.specs.Answer.{unitOf}
-use Rattle.modbus.specs.Reply.{replyIn}
-use Rattle.modbus.specs.declared.answers.Answer.{Answer}
-use Rattle.modbus.proofs.Buffers.{reply-all}
-use Rattle.ascii.specs.Ascii.{bytesIn, asciiOf}
+use Rattle.ascii.specs.Ascii.{bytesIn}
 use Rattle.ascii.proofs.Replies as Replies
 use Rattle.ascii_scan.specs.Parts.{unitAmong}
 use Rattle.modbus_service.specs.Reply.{exchanged}
@@ -27,15 +23,6 @@ use Rattle.turn.specs.Stream.{taken}
 use Rattle.turn.specs.declared.Turn.{Turn}
 use Rattle.turn.proofs.Laws.{Does, streamed-used, streamed-uses, streamed-short}
 use Rattle.ascii_port.specs.Receive.{exchangeOn, replyText, answeredBy, asciiStream, asciiReceived}
-
--- ---- the reply is put where there is one
-pub put-none : (address : ℕ) (said : Reply) (before : List ℕ) → said ≡ Nothing → (0 ≡ length (replyText address said)) × (before ≡ front (replyText address said) before)
-put-none address said before is = rw is (refl, sym (front-none before))
-
-pub put-unit : (address n : ℕ) (said : Reply) (answer : Answer) (out before : List ℕ) → 19 ≤ length before → said ≡ Data answer
-    → (n ≡ length (replyIn (length before) (asciiOf address (unitOf answer)))) × (out ≡ front (replyIn (length before) (asciiOf address (unitOf answer))) before)
-    → (n ≡ length (replyText address said)) × (out ≡ front (replyText address said) before)
-put-unit address n said answer out before room is puts = rw is (rw (reply-all (length before) (asciiOf address (unitOf answer)) room) at puts)
 
 -- ---- a message's bytes are served
 module _ (c after : Card) (scan : Scan) (message unit : List ℕ) (address : ℕ) (e : Exchange) (n : ℕ) (out before : List ℕ)

@@ -1,17 +1,15 @@
 -- A call on bytes of Modbus ASCII: the stream call of its messages. Assumes nothing.
-use mathlib.Core.List.{List, []}
+use mathlib.Core.List.{List}
 use Prim.Native.Nat.{ℕ}
 use lib.ListN.{getD}
 use Rattle.pending.specs.declared.Scan.{Scan}
 use Rattle.pending.specs.Held.{held}
-use Rattle.modbus.specs.Answer.{unitOf}
 use Rattle.ascii.specs.Ascii.{bytesIn, asciiOf}
 use Rattle.ascii_scan.specs.Scan.{feeding}
 use Rattle.ascii_scan.specs.Parts.{unitAmong}
-use Rattle.modbus_service.specs.Reply.{exchanged}
+use Rattle.modbus_service.specs.Reply.{sentBy, exchanged}
 use Rattle.modbus_service.specs.declared.Exchange.{Exchange}
 use Rattle.modbus_service.specs.declared.Reply.{Reply}
-use Rattle.modbus_service.specs.declared.Reply.the-variants.{Nothing, Data}
 use Rattle.card.specs.declared.state.Card.{Card}
 use Rattle.turn.specs.Turn.{Received, answered}
 use Rattle.turn.specs.Stream.{Stream, streamed}
@@ -22,8 +20,7 @@ exchangeOn c message = exchanged (c .plant) (c .port .sioerr) (c .station) (getD
 
 -- the reply's text, from the request's address
 abbrev pub replyText : ℕ → Reply → List ℕ
-replyText address Nothing = []
-replyText address (Data answer) = asciiOf address (unitOf answer)
+replyText = sentBy asciiOf
 
 abbrev pub replyOn : Card → List ℕ → List ℕ
 replyOn c message = replyText (getD message 0 0) (exchangeOn c message .reply)

@@ -1,3 +1,4 @@
 pub mod Laws
 pub mod Replies
 pub mod Fitting
+pub mod Sending

@@ -1,5 +1,5 @@
 -- What is replied to a data unit: the column "Modbus exception", a normal answer, or nothing. Assumes nothing.
-use mathlib.Core.List.{List}
+use mathlib.Core.List.{List, []}
 use Prim.Native.Nat.{ℕ, _%_}
 use lib.Dec.{eqb}
 use Rattle.base.specs.Choice.{pick}
@@ -11,6 +11,7 @@ use Rattle.answers.specs.declared.Answer.{Answer}
 use Rattle.answers.specs.declared.Answer.the-variants.{Told, Written, NotOurs, Refused}
 use Rattle.answers.specs.declared.Refusal.{Refusal}
 use Rattle.answers.specs.declared.Refusal.the-variants as Refusals
+use Rattle.modbus.specs.Answer.{unitOf}
 use Rattle.modbus.specs.Request.{label, requestOf}
 use Rattle.modbus.specs.declared.requests.Request.{Request}
 use Rattle.modbus.specs.declared.requests.Request.the-variants.{Read, One, Many, Malformed, Unknown}
@@ -69,3 +70,8 @@ exchanged p sioerr station address unit =
       served = served p sioerr station address unit;
       reply = replied address unit (served p sioerr station address unit .answer);
     }
+
+-- the reply's message, as its line makes messages of an address and a data unit; none where nothing is replied
+abbrev pub sentBy : (ℕ → List ℕ → List ℕ) → ℕ → Reply → List ℕ
+sentBy made address Nothing = []
+sentBy made address (Data answer) = made address (unitOf answer)

@@ -1,5 +1,5 @@
 -- A call on a frame of Modbus RTU, case by case. Assumes nothing.
-use mathlib.Core.Path.{_≡_, refl, sym}
+use mathlib.Core.Path.{_≡_, refl}
 use mathlib.Core.Bool.{Bool, true, false, not}
 use mathlib.Core.List.{List}
 use Prim.Native.Nat.{ℕ, _≤_, _<_}
@@ -8,14 +8,10 @@ use borrow.Author.Tests.{lt-ltb, le-ltb, not-true, not-false}
 use lib.Dec.{ltb}
 use lib.ListN.{length}
 use Rattle.base.specs.Buffers.{front}
-use Rattle.base.proofs.Sets.{front-none}
 use Rattle.base.proofs.Tests.{pick-both}
 use Rattle.modbus.specs.Answer.{unitOf}
-use Rattle.modbus.specs.Reply.{replyIn}
-use Rattle.modbus.specs.declared.answers.Answer.{Answer}
-use Rattle.modbus.proofs.Buffers.{reply-all}
 use Rattle.modbus.proofs.Units.{unit-short}
-use Rattle.rtu.specs.Rtu.{frameHolds, addressIn, unitIn, rtuOf}
+use Rattle.rtu.specs.Rtu.{frameHolds, addressIn, unitIn}
 use Rattle.rtu.proofs.Replies.{rtu-length}
 use Rattle.modbus_service.specs.Reply.{exchanged}
 use Rattle.modbus_service.specs.declared.Exchange.{Exchange}
@@ -27,15 +23,6 @@ use Rattle.turn.specs.Turn.{Received, turnOf, tooShort, cardAfter}
 use Rattle.turn.specs.declared.Turn.{Turn}
 use Rattle.turn.proofs.Laws.{Does, silent}
 use Rattle.rtu_port.specs.Receive.{exchangeOn, frameOf, spoilt, taken, rtuReceived}
-
--- ---- the reply is put where there is one
-pub put-none : (address : ℕ) (said : Reply) (before : List ℕ) → said ≡ Nothing → (0 ≡ length (frameOf address said)) × (before ≡ front (frameOf address said) before)
-put-none address said before is = rw is (refl, sym (front-none before))
-
-pub put-unit : (address n : ℕ) (said : Reply) (answer : Answer) (out before : List ℕ) → 19 ≤ length before → said ≡ Data answer
-    → (n ≡ length (replyIn (length before) (rtuOf address (unitOf answer)))) × (out ≡ front (replyIn (length before) (rtuOf address (unitOf answer))) before)
-    → (n ≡ length (frameOf address said)) × (out ≡ front (frameOf address said) before)
-put-unit address n said answer out before room is puts = rw is (rw (reply-all (length before) (rtuOf address (unitOf answer)) room) at puts)
 
 -- ---- a frame is taken
 module _ (c after : Card) (frame unit : List ℕ) (address : ℕ) (e : Exchange) (n : ℕ) (out before : List ℕ)

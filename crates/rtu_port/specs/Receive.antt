@@ -4,12 +4,10 @@ use Prim.Native.Nat.{ℕ}
 use lib.Dec.{ltb}
 use lib.ListN.{length}
 use Rattle.base.specs.Choice.{pick}
-use Rattle.modbus.specs.Answer.{unitOf}
 use Rattle.rtu.specs.Rtu.{frameHolds, addressIn, unitIn, rtuOf}
-use Rattle.modbus_service.specs.Reply.{exchanged}
+use Rattle.modbus_service.specs.Reply.{sentBy, exchanged}
 use Rattle.modbus_service.specs.declared.Exchange.{Exchange}
 use Rattle.modbus_service.specs.declared.Reply.{Reply}
-use Rattle.modbus_service.specs.declared.Reply.the-variants.{Nothing, Data}
 use Rattle.card.specs.declared.state.Card.{Card}
 use Rattle.card.specs.declared.outcome.Outcome.the-variants as Outcomes
 use Rattle.turn.specs.Turn.{Received, tooShort, answered}
@@ -20,8 +18,7 @@ exchangeOn c frame = exchanged (c .plant) (c .port .sioerr) (c .station) (addres
 
 -- the reply's frame, from the request's address
 abbrev pub frameOf : ℕ → Reply → List ℕ
-frameOf address Nothing = []
-frameOf address (Data answer) = rtuOf address (unitOf answer)
+frameOf = sentBy rtuOf
 
 -- "11: RTU length or CRC wrong"
 abbrev pub spoilt : Card → ℕ → Received
