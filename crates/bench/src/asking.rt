@@ -1,18 +1,158 @@
-// The master's requests: each is written into a lent buffer, and the whole buffer printed.
+// The lines of more than three words. Each tells a master to write a request into a lent buffer, and the whole buffer is printed.
+use crate::numbers;
+use crate::numbers::Number;
+use crate::numbers::Short;
 use crate::output;
 use crate::output::Out;
-use crate::request::Request;
+use crate::spelling;
+use crate::spelling::Bytes;
+use crate::spelling::Spelling;
+use crate::words;
 use master::Sent;
+use master_request::Ask;
+use table::ENumber;
+use table::Register;
 
-// Writes a request. The register bytes of a 16 stand beside it.
-fn write(request: Request, registers: &[u8], buffer: &mut [u8]) -> Sent {
-    match request {
-        Request::Enquiry(address, e) => master_nfo::enquiry(address, e, buffer),
-        Request::Select(address, e, word) => master_nfo::select(address, e, word, buffer),
-        Request::Rtu(address, ask) => master_rtu::write_request(address, ask, registers, buffer),
-        Request::Ascii(address, ask) => {
-            master_ascii::write_request(address, ask, registers, buffer)
-        }
+// What comes of a line.
+enum Asked {
+    Sent(Sent),
+    NotACommand,
+}
+
+// The two numbers behind B.
+enum Head {
+    Numbers(u8, u16),
+    Outside,
+}
+
+// `ADR N`, word `k` and the one after it. N is E, REG or FN.
+fn head_at(line: &[u8], k: u8) -> Head {
+    let at = k as usize;
+    let Short::Word(address) = numbers::between16(0, 255, words::word(line, at)) else {
+        return Head::Outside;
+    };
+    let Short::Word(n) = numbers::between16(0, 65535, words::word(line, at + 1)) else {
+        return Head::Outside;
+    };
+    Head::Numbers((address % 256) as u8, n)
+}
+
+// `enq B ADR E`
+fn enquiry(line: &[u8], buffer: &mut [u8]) -> Asked {
+    if !check::same(words::word(line, 0), b"enq") {
+        return Asked::NotACommand;
+    }
+    let Head::Numbers(address, e) = head_at(line, 2) else {
+        return Asked::NotACommand;
+    };
+    Asked::Sent(master_nfo::enquiry(address, ENumber(e), buffer))
+}
+
+// `sel B ADR E VALUE`, VALUE from -32768 to 32767
+fn select(line: &[u8], buffer: &mut [u8]) -> Asked {
+    if !check::same(words::word(line, 0), b"sel") {
+        return Asked::NotACommand;
+    }
+    let Head::Numbers(address, e) = head_at(line, 2) else {
+        return Asked::NotACommand;
+    };
+    let Short::Word(value) = numbers::between16(32768, 32767, words::word(line, 4)) else {
+        return Asked::NotACommand;
+    };
+    Asked::Sent(master_nfo::select(address, ENumber(e), value, buffer))
+}
+
+// A request by P, which is word 1.
+fn modbus(line: &[u8], address: u8, ask: Ask, registers: &[u8], buffer: &mut [u8]) -> Asked {
+    let protocol = words::word(line, 1);
+    if check::same(protocol, b"rtu") {
+        return Asked::Sent(master_rtu::write_request(address, ask, registers, buffer));
+    }
+    if check::same(protocol, b"ascii") {
+        return Asked::Sent(master_ascii::write_request(address, ask, registers, buffer));
+    }
+    Asked::NotACommand
+}
+
+// `one P B ADR REG WORD`
+fn one(line: &[u8], buffer: &mut [u8]) -> Asked {
+    let Head::Numbers(address, register) = head_at(line, 3) else {
+        return Asked::NotACommand;
+    };
+    let Short::Word(word) = numbers::between16(0, 65535, words::word(line, 5)) else {
+        return Asked::NotACommand;
+    };
+    modbus(
+        line,
+        address,
+        Ask::One(Register(register), word),
+        b"",
+        buffer,
+    )
+}
+
+// `many P B ADR REG HEX`, HEX of an even number of bytes
+fn many(line: &[u8], bytes: &mut Bytes, buffer: &mut [u8]) -> Asked {
+    let Head::Numbers(address, first) = head_at(line, 3) else {
+        return Asked::NotACommand;
+    };
+    let Spelling::Bytes(n) = spelling::spelt(words::word(line, 5), bytes) else {
+        return Asked::NotACommand;
+    };
+    if n % 2 != 0 {
+        return Asked::NotACommand;
+    }
+    modbus(
+        line,
+        address,
+        Ask::Many(Register(first)),
+        spelling::first(bytes, n),
+        buffer,
+    )
+}
+
+// `one` or `many`
+fn write(line: &[u8], bytes: &mut Bytes, buffer: &mut [u8]) -> Asked {
+    let name = words::word(line, 0);
+    if check::same(name, b"one") {
+        return one(line, buffer);
+    }
+    if check::same(name, b"many") {
+        return many(line, bytes, buffer);
+    }
+    Asked::NotACommand
+}
+
+// `read P B ADR FN REG COUNT`, FN 3 or 4
+fn read(line: &[u8], buffer: &mut [u8]) -> Asked {
+    if !check::same(words::word(line, 0), b"read") {
+        return Asked::NotACommand;
+    }
+    let Head::Numbers(address, function) = head_at(line, 3) else {
+        return Asked::NotACommand;
+    };
+    let Short::Word(first) = numbers::between16(0, 65535, words::word(line, 5)) else {
+        return Asked::NotACommand;
+    };
+    let Short::Word(count) = numbers::between16(0, 65535, words::word(line, 6)) else {
+        return Asked::NotACommand;
+    };
+    let ask = match function {
+        3 => Ask::Holding(Register(first), count),
+        4 => Ask::Input(Register(first), count),
+        _ => return Asked::NotACommand,
+    };
+    modbus(line, address, ask, b"", buffer)
+}
+
+// Does what the line tells.
+fn request(line: &[u8], bytes: &mut Bytes, buffer: &mut [u8]) -> Asked {
+    match words::count(line) {
+        4 => enquiry(line, buffer),
+        5 => select(line, buffer),
+        6 => write(line, bytes, buffer),
+        7 => read(line, buffer),
+        _ => Asked::NotACommand,
     }
 }
 
@@ -26,8 +166,11 @@ fn length_of(sent: Sent) -> usize {
 }
 
 // `OUTCOME LEN BUFFER`
-fn written(out: &mut Out, request: Request, registers: &[u8], buffer: &mut [u8]) {
-    let sent = write(request, registers, buffer);
+fn written(out: &mut Out, line: &[u8], bytes: &mut Bytes, buffer: &mut [u8]) {
+    let Asked::Sent(sent) = request(line, bytes, buffer) else {
+        output::unknown(out);
+        return;
+    };
     let mut n = output::unsigned(out, 0, sent.number() as u64);
     n = output::spaced(out, n, length_of(sent) as u64);
     n = output::put(out, n, b' ');
@@ -35,11 +178,23 @@ fn written(out: &mut Out, request: Request, registers: &[u8], buffer: &mut [u8])
     output::end(out, n);
 }
 
-// `enq B ..` and the other writers. B is 0 to 600; the line is no command where it is more.
-pub fn ask(out: &mut Out, size: usize, request: Request, registers: &[u8]) {
+// The place of B: word 1, or word 2 where P stands before it.
+fn place_of_size(line: &[u8]) -> usize {
+    if words::count(line) < 6 { 1 } else { 2 }
+}
+
+// Does what the line tells, and prints the answer. `bytes` is room for the bytes of its HEX. B is 0 to 600; the line is no command where it is
+// more.
+pub fn answer(out: &mut Out, line: &[u8], bytes: &mut Bytes) {
     let mut buffer = [0xA5u8; 600];
+    let Number::Word(b) = numbers::between(0, u32::MAX, words::word(line, place_of_size(line)))
+    else {
+        output::unknown(out);
+        return;
+    };
+    let size = b as usize;
     if size <= 600 {
-        written(out, request, registers, &mut buffer[0..size]);
+        written(out, line, bytes, &mut buffer[0..size]);
         return;
     }
     output::unknown(out);

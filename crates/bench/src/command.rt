@@ -1,16 +1,14 @@
-// What a line says: a command with its numbers, and beside it the bytes that HEX spells.
+// What a line of up to three words says: a command with its numbers, and beside it the bytes that HEX spells.
 use crate::numbers;
 use crate::numbers::Number;
 use crate::numbers::Short;
-use crate::request;
-use crate::request::Request;
 use crate::spelling;
 use crate::spelling::Bytes;
 use crate::spelling::Spelling;
 use crate::words;
 use card::Protocol;
 
-// A command. Where it has a HEX, its last number tells how many bytes that spells; the first of `Call` and `Ask` is the buffer's size.
+// A command. Where it has a HEX, its last number tells how many bytes that spells; the first of `Call` is the buffer's size.
 pub enum Command {
     Start(Protocol),
     Restart,
@@ -19,7 +17,6 @@ pub enum Command {
     Host(Event),
     State,
     RegisterData(usize),
-    Ask(usize, Request, usize),
     Hear(Protocol, usize),
     NotACommand,
 }
@@ -108,41 +105,8 @@ fn counted(name: &[u8], number: &[u8]) -> Command {
     Command::NotACommand
 }
 
-// `bytes HEX`
-fn scrap(word: &[u8], bytes: &mut Bytes) -> Command {
-    let Spelling::Bytes(n) = spelling::spelt(word, bytes) else {
-        return Command::NotACommand;
-    };
-    Command::Bytes(n)
-}
-
-// `regdata HEX`
-fn register_data(word: &[u8], bytes: &mut Bytes) -> Command {
-    let Spelling::Bytes(n) = spelling::spelt(word, bytes) else {
-        return Command::NotACommand;
-    };
-    Command::RegisterData(n)
-}
-
-// `nreply HEX`
-fn nfo_reply(word: &[u8], bytes: &mut Bytes) -> Command {
-    let Spelling::Bytes(n) = spelling::spelt(word, bytes) else {
-        return Command::NotACommand;
-    };
-    Command::Hear(Protocol::Nfo, n)
-}
-
-// A name with one word after it.
-fn with_one(name: &[u8], word: &[u8], bytes: &mut Bytes) -> Command {
-    if check::same(name, b"bytes") {
-        return scrap(word, bytes);
-    }
-    if check::same(name, b"regdata") {
-        return register_data(word, bytes);
-    }
-    if check::same(name, b"nreply") {
-        return nfo_reply(word, bytes);
-    }
+// `start P`, `din1 N` and the others without a HEX
+fn with_number(name: &[u8], word: &[u8]) -> Command {
     if check::same(name, b"start") {
         return start(word);
     }
@@ -156,6 +120,23 @@ fn with_one(name: &[u8], word: &[u8], bytes: &mut Bytes) -> Command {
         return irms(word);
     }
     counted(name, word)
+}
+
+// A name with one word after it, `bytes HEX`, `regdata HEX`, `nreply HEX` among them.
+fn with_one(name: &[u8], word: &[u8], bytes: &mut Bytes) -> Command {
+    let Spelling::Bytes(n) = spelling::spelt(word, bytes) else {
+        return with_number(name, word);
+    };
+    if check::same(name, b"bytes") {
+        return Command::Bytes(n);
+    }
+    if check::same(name, b"regdata") {
+        return Command::RegisterData(n);
+    }
+    if check::same(name, b"nreply") {
+        return Command::Hear(Protocol::Nfo, n);
+    }
+    with_number(name, word)
 }
 
 // `call B HEX`
@@ -205,6 +186,6 @@ pub fn parse(line: &[u8], bytes: &mut Bytes) -> Command {
             words::word(line, 2),
             bytes,
         ),
-        count => request::parse(line, count, bytes),
+        _ => Command::NotACommand,
     }
 }

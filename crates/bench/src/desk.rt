@@ -6,19 +6,13 @@ use crate::command::Event;
 use crate::hearing;
 use crate::output;
 use crate::output::Out;
+use crate::spelling;
 use crate::spelling::Bytes;
 use crate::state;
+use crate::words;
 use card::After;
 use card::Card;
 use drive::Measured;
-
-// The first `n` bytes, or all where there are fewer.
-fn first(bytes: &[u8], n: usize) -> &[u8] {
-    if n <= bytes.len() {
-        return &bytes[0..n];
-    }
-    &bytes[0..]
-}
 
 // `OUTCOME`
 fn outcome(out: &mut Out, number: u32) {
@@ -46,7 +40,7 @@ fn give(out: &mut Out, card: Card, scrap: &[u8]) -> Given {
     let result = turn.outcome;
     let number = result.number();
     if number != 15 {
-        reply_line(out, number, first(&buffer, turn.len));
+        reply_line(out, number, spelling::first(&buffer, turn.len));
     }
     let next = turn.card;
     Given {
@@ -145,7 +139,7 @@ fn state(out: &mut Out, card: Card) {
         port.protocol,
         &rows,
         &others,
-        first(&bytes, pending.len),
+        spelling::first(&bytes, pending.len),
     );
 }
 
@@ -183,23 +177,19 @@ fn perform(out: &mut Out, card: Card, command: Command, buffer: &Bytes) -> Card 
             outcome(out, 0);
             card.restart()
         }
-        Command::Bytes(n) => bytes(out, card, first(buffer, n)),
-        Command::Call(size, n) => call(out, card, size, first(buffer, n)),
+        Command::Bytes(n) => bytes(out, card, spelling::first(buffer, n)),
+        Command::Call(size, n) => call(out, card, size, spelling::first(buffer, n)),
         Command::Host(event) => host(out, card, event),
         Command::State => {
             state(out, card);
             card
         }
         Command::RegisterData(n) => {
-            register_data(out, first(buffer, n));
-            card
-        }
-        Command::Ask(size, request, n) => {
-            asking::ask(out, size, request, first(buffer, n));
+            register_data(out, spelling::first(buffer, n));
             card
         }
         Command::Hear(protocol, n) => {
-            hearing::hear(out, protocol, first(buffer, n));
+            hearing::hear(out, protocol, spelling::first(buffer, n));
             card
         }
         Command::NotACommand => {
@@ -212,6 +202,10 @@ fn perform(out: &mut Out, card: Card, command: Command, buffer: &Bytes) -> Card 
 // Does the command of a line, and prints its answer.
 pub fn answer(out: &mut Out, card: Card, line: &[u8]) -> Card {
     let mut buffer = [0u8; 1350];
+    if 3 < words::count(line) {
+        asking::answer(out, line, &mut buffer);
+        return card;
+    }
     let command = command::parse(line, &mut buffer);
     perform(out, card, command, &buffer)
 }

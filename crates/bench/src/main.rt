@@ -6,7 +6,6 @@ mod hearing;
 mod lines;
 mod numbers;
 mod output;
-mod request;
 mod spelling;
 mod state;
 mod words;

@@ -26,3 +26,11 @@ pub fn spelt(word: &[u8], bytes: &mut Bytes) -> Spelling {
     }
     Spelling::Bytes(n)
 }
+
+// The first `n` bytes, or all where there are fewer.
+pub fn first(bytes: &[u8], n: usize) -> &[u8] {
+    if n <= bytes.len() {
+        return &bytes[0..n];
+    }
+    &bytes[0..]
+}
