@@ -30,6 +30,7 @@ use Rattle.demands.specs.Orders.{callOrder}
 use Rattle.demands.specs.Demand1.{numberIn, Receiving, Refuses, Events, Writing, Demand1, Replying}
 use Rattle.demands.proofs.Numbered.{gives, received-number}
 use Rattle.demands.proofs.Leaving.{received-leaves}
+use Rattle.demands.proofs.Waiting.{nfo-nothing, ascii-nothing}
 use Rattle.demands.proofs.Hearing.{hearing}
 
 -- ---- calls
@@ -48,6 +49,8 @@ receiving =
     record {
       within = λ c bytes room. (received-used c bytes room, reply-fits c bytes room);
       number = λ c bytes room n. gives numberOf (callOrder c bytes room) (numberIn (received c bytes room)) n (received-number c bytes room);
+      nfo-nothing = nfo-nothing;
+      ascii-nothing = ascii-nothing;
       leaves = λ c bytes room. received-leaves c bytes room;
     }
 

@@ -15,7 +15,7 @@ use Rattle.answers.specs.declared.Answer.{Answer}
 use Rattle.answers.specs.declared.Answer.the-variants.{Told, Written, NotOurs, Refused}
 use Rattle.answers.specs.declared.Refusal.{Refusal}
 use Rattle.answers.specs.declared.Refusal.the-variants as Refusals
-use Rattle.answers.specs.Answer.{refusalNumber}
+use Rattle.answers.specs.Answer.{refusalNumber, answerNumber}
 use Rattle.service.specs.Serving.{theRow, keeping, toldServed}
 use Rattle.service.specs.declared.Served.{Served}
 use Rattle.service.proofs.Laws.{wrote-keeps}
@@ -86,6 +86,13 @@ refusal-within Refusals.Running = (omega arith, omega arith)
 refusal-within Refusals.NotPermitted = (omega arith, omega arith)
 refusal-within Refusals.Malformed = (omega arith, omega arith)
 refusal-within Refusals.NoFunction = (omega arith, omega arith)
+
+-- the number of a message is 9 at most
+pub answer-most : (x : Answer) → answerNumber x ≤ 9
+answer-most (Told row w) = omega arith
+answer-most (Written change) = omega arith
+answer-most NotOurs = omega arith
+answer-most (Refused x) = refusal-within x .1
 
 module _ (c : Card) (count : ℕ) where
   short-leaves : Leaves c count (tooShort c)

@@ -7,6 +7,7 @@ pub mod Replied
 pub mod Demand2
 pub mod Numbered
 pub mod Leaving
+pub mod Waiting
 pub mod Hearing
 pub mod Demand1
 pub mod Cases

@@ -3,19 +3,20 @@
 -- That the rest holds is `demand-1`, in proofs/Demand1.antt. Assumes nothing.
 use mathlib.Core.Path.{_≡_}
 use mathlib.Core.Logic.{_⊎_, _↔_}
-use mathlib.Core.Bool.{Bool, not}
-use mathlib.Core.List.{List, [], _∷_}
+use mathlib.Core.Bool.{Bool, true, not}
+use mathlib.Core.List.{List, [], _∷_, _++_}
 use Prim.Native.Nat.{ℕ, _≤_, _+_, _<_}
 use lib.Dec.{ltb}
 use lib.ListN.{length}
 use Rattle.base.specs.Choice.{pick, either}
 use Rattle.base.specs.Order.{when}
 use Rattle.base.specs.Bytes.{Bytes}
+use Rattle.stream.specs.Reading.{Yield, Reads}
 use Rattle.drive.specs.declared.events.Measured.{Measured}
 use Rattle.drive.specs.Events.{isFault}
 use Rattle.answers.specs.declared.Answer.the-variants as Answers
 use Rattle.answers.specs.declared.Refusal.{Refusal}
-use Rattle.pending.specs.Held.{held}
+use Rattle.pending.specs.Held.{held, Sized}
 use Rattle.nfo.specs.declared.message.Message.{Message}
 use Rattle.nfo.specs.Replies.{replyOf, ackOf, nakOf}
 use Rattle.nfo_service.specs.Serve as Nfo
@@ -47,7 +48,8 @@ use Rattle.modbus_service.specs.declared.Reply.the-variants.{Nothing, Data}
 use Rattle.turn.specs.Turn.{Received}
 use Rattle.receive.specs.Receive.{received}
 use Rattle.demands.specs.Orders.{Gives, callOrder}
-use Rattle.demands.specs.Demand3.{besides}
+use Rattle.demands.specs.Calls.{Protocol, Speaks}
+use Rattle.demands.specs.Demand3.{nfoSerial, modbusAscii, besides}
 
 -- ---- what each number leaves
 abbrev pub numberIn : Received → ℕ
@@ -73,11 +75,20 @@ pub record Leaves (c : Card) (count : ℕ) (r : Received) : Type 0 where
   -- 12 is the host's, 13 and 14 are the master's
   pub listed : (numberIn r ≤ 11) ⊎ (numberIn r ≡ 15)
 
+-- "15: nothing taken", exactly where the left-to-right reading of what is pending and the bytes behind it takes none. What is pending could become a
+-- message: so it is at start, and after every call by demand 3
+abbrev pub NothingTaken : Protocol → Type 0
+NothingTaken P =
+    (c : Card) → Speaks P c → Sized (c .port .pending) → P .format .viable (held (c .port .pending)) ≡ true → (bytes : List ℕ) (room : ℕ) → 19 ≤ room
+    → (y : Yield) → Reads (P .format) 0 (held (c .port .pending) ++ bytes) y → (numberIn (received c bytes room) ≡ 15) ↔ (y .taken ≡ [])
+
 pub record Receiving : Type 0 where
   -- "No bytes, lengths, numbers or lent buffers can break it": the bytes used are there, and a reply fits
   pub within : (c : Card) (bytes : List ℕ) (room : ℕ) → (received c bytes room .used ≤ length bytes) × (length (received c bytes room .reply) ≤ room)
   -- "Each refusal has document 01's number, is given exactly then": the first line of the order that applies
   pub number : (c : Card) (bytes : List ℕ) (room n : ℕ) → (numberIn (received c bytes room) ≡ n) ↔ Gives numberOf (callOrder c bytes room) n
+  pub nfo-nothing : NothingTaken nfoSerial
+  pub ascii-nothing : NothingTaken modbusAscii
   -- "and leaves settings, drive state and reply buffer as 01 says"
   pub leaves : (c : Card) (bytes : List ℕ) (room : ℕ) → Leaves c (length bytes) (received c bytes room)
 
