@@ -1,38 +1,32 @@
 -- Demand 2 holds: what was written is read as what was said, and what was replied as what was answered. Assumes nothing.
-use mathlib.Core.Path.{_≡_, ap, _∙_}
+use mathlib.Core.Path.{_≡_, _∙_}
 use mathlib.Core.Bool.{true}
 use mathlib.Core.List.{List}
-use Prim.Native.Nat.{ℕ, _≤_}
+use Prim.Native.Nat.{ℕ}
 use native.Mathlib.Omega.{arith}
 use borrow.Author.Tests.{le-ltb}
 use lib.ListN.{length, getD}
 use Rattle.nfo.proofs.Lawful.{nfo-lawful}
-use Rattle.modbus.proofs.Units as Widths
 use Rattle.modbus.specs.declared.answers.Answer as Units
-use Rattle.modbus.specs.Answer.{unitOf}
-use Rattle.rtu.specs.Rtu.{addressIn, unitIn, rtuOf}
+use Rattle.rtu.specs.Rtu.{addressIn, unitIn}
 use Rattle.rtu.proofs.RoundTrip.{own-address}
 use Rattle.ascii.specs.Ascii as Text
 use Rattle.ascii.proofs.Lawful.{ascii-lawful}
 use Rattle.ascii_scan.specs.Parts.{unitAmong}
-use Rattle.ascii_scan.proofs.Parsed.{decoded-below}
 use Rattle.modbus_service.specs.Reply.{exchanged}
 use Rattle.modbus_service.specs.declared.Reply.the-variants.{Data}
 use Rattle.modbus_service.proofs.Fitting.{from-us}
 use Rattle.card.specs.declared.state.Card.{Card}
 use Rattle.rtu_port.specs.Receive as Rtu
-use Rattle.ascii_port.specs.Receive as Ascii
-use Rattle.receive.specs.Receive.{received}
 use Rattle.receive.proofs.Laws.{by-rtu}
 use Rattle.master_nfo.proofs.Asked.{enquirable-is, selectable-is}
 use Rattle.master_nfo.proofs.Heard.{enquiry-formed, enquiry-heard, select-formed, select-heard}
 use Rattle.master_request.specs.declared.Ask.{Ask}
 use Rattle.master_request.specs.Ask.{sayable, requestUnit}
-use Rattle.master_request.specs.Said.{InWidth}
-use Rattle.master_reply.specs.Told.{Within, replyTo, wordsTold}
+use Rattle.master_reply.specs.Told.{Within}
 use Rattle.master_rtu.proofs.RoundTrip as Frames
 use Rattle.master_ascii.proofs.RoundTrip as Texts
-use Rattle.demands.specs.Demand2.{FrameRead, frame, text, Requests, Replies, Demand2}
+use Rattle.demands.specs.Demand2.{FrameRead, frame, Requests, Replies, Demand2}
 use Rattle.demands.specs.Demand3.{nfoSerial, modbusAscii}
 use Rattle.demands.proofs.Demand3.{demand-3}
 use Rattle.demands.proofs.Taking.{message-read}

@@ -11,7 +11,7 @@ use Rattle.stream.specs.Scanned.{messagesOf}
 use Rattle.stream.specs.Theorem.{StreamTheorem}
 use Rattle.stream.proofs.Reading.{empty-viable}
 use Rattle.pending.specs.declared.Pending.{Pending}
-use Rattle.pending.specs.Held.{held, Sized}
+use Rattle.pending.specs.Held.{Sized}
 use Rattle.pending.specs.Scanning.{Follows}
 use Rattle.nfo.proofs.Lawful.{nfo-lawful, nfo-stream}
 use Rattle.nfo.proofs.Follows.{nfo-follows}
@@ -65,7 +65,7 @@ module _ (P : Protocol) (S : Stream) (H : Streams P S) where
       }
 
 -- ---- NFO serial
-nfo-calls : (c : Card) (x : List ℕ) (room : ℕ) → Speaks nfoSerial c → received c x room ≡ streamed nfoStream c x room
+pub nfo-calls : (c : Card) (x : List ℕ) (room : ℕ) → Speaks nfoSerial c → received c x room ≡ streamed nfoStream c x room
 unfolding nfoReceived
 nfo-calls c x room p = by-nfo c x room (λ q. omega (arith, p, q)) (λ q. omega (arith, p, q))
 
@@ -82,7 +82,7 @@ nfo-streams =
     }
 
 -- ---- Modbus ASCII
-ascii-calls : (c : Card) (x : List ℕ) (room : ℕ) → Speaks modbusAscii c → received c x room ≡ streamed asciiStream c x room
+pub ascii-calls : (c : Card) (x : List ℕ) (room : ℕ) → Speaks modbusAscii c → received c x room ≡ streamed asciiStream c x room
 unfolding asciiReceived
 ascii-calls c x room p = by-ascii c x room p
 

@@ -1,7 +1,7 @@
 -- A well-formed message after bytes that leave nothing pending is taken as it is, for any lawful format. Assumes nothing.
-use mathlib.Core.Path.{_≡_, refl, sym, ap, subst, _∙_}
+use mathlib.Core.Path.{_≡_, sym, ap, subst, _∙_}
 use mathlib.Core.Bool.{true}
-use mathlib.Core.List.{List, [], _∷_, _++_, append-nil}
+use mathlib.Core.List.{List, [], _++_, append-nil}
 use Prim.Native.Nat.{ℕ, _+_}
 use native.Mathlib.Omega.{arith}
 use lib.ListN.{length}
@@ -11,10 +11,9 @@ use Rattle.stream.specs.Automaton.{feedAll, feedOn, join}
 use Rattle.stream.specs.Theorem.{StreamTheorem}
 use Rattle.stream.proofs.Automaton.{feed-append}
 use Rattle.stream.proofs.Reading.{empty-viable}
-use Rattle.card.specs.declared.state.Card.{Card}
-use Rattle.demands.specs.Calls.{Protocol, Course, Calls, Speaks, servedAll}
+use Rattle.demands.specs.Calls.{Protocol, servedAll}
 use Rattle.demands.specs.Demand2.{TakenAfter, ServedAlone, Read}
-use Rattle.demands.specs.Demand3.{NothingPending, Same, Demand3}
+use Rattle.demands.specs.Demand3.{Same, Demand3}
 
 module _ (F : Format) (L : Lawful F) (T : StreamTheorem F) where
   -- from a place where nothing is pending

@@ -1,13 +1,12 @@
 -- What the card replies over NFO serial is read back as what was answered. Assumes nothing.
-use mathlib.Core.Path.{_≡_, refl, ap, _∙_}
+use mathlib.Core.Path.{_≡_, refl}
 use mathlib.Core.Logic.{_⊎_, inl, inr}
-use mathlib.Core.Bool.{Bool, true, false}
+use mathlib.Core.Bool.{true}
 use mathlib.Core.List.{List, []}
-use Prim.Native.Nat.{ℕ, _+_, _*_, _%_, _<_}
+use Prim.Native.Nat.{ℕ, _+_, _%_, _<_}
 use native.Mathlib.Omega.{arith}
 use lib.Dec.{eqb}
 use lib.ListN.{getD}
-use Rattle.base.specs.Choice.{pick}
 use Rattle.base.proofs.Tests.{pick-both}
 use Rattle.hex.specs.Hex.{pairValue}
 use Rattle.hex.specs.declared.Pair.{Pair}
@@ -19,11 +18,7 @@ use Rattle.nfo.specs.Shape.{fits, whole}
 use Rattle.nfo.specs.Message.{ADR, enquiry, select, formed}
 use Rattle.nfo.specs.Parts.{wordIn, valueAt, numberIn, parameterAt, messageOf}
 use Rattle.nfo.specs.declared.message.Message.{Message}
-use Rattle.nfo.specs.declared.message.Message.the-variants.{Enquiry, Select}
 use Rattle.nfo.specs.declared.message.Parameter.{Parameter}
-use Rattle.nfo.specs.declared.message.Parameter.the-variants.{Number, NoNumber}
-use Rattle.nfo.specs.declared.message.Value.{Value}
-use Rattle.nfo.specs.declared.message.Value.the-variants.{Word, NotHex}
 use Rattle.nfo.proofs.Shape.{whole-at}
 use Rattle.nfo.proofs.Lawful.{formed-shape}
 use Rattle.nfo_service.specs.Reply.{adrIn, parameterIn, numberOf, repliedBy, replied}

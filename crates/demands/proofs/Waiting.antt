@@ -30,14 +30,14 @@ use Rattle.card.specs.declared.state.Card.{Card}
 use Rattle.card.specs.declared.outcome.Outcome.the-variants as Outcomes
 use Rattle.turn.specs.Turn.{Received, waiting}
 use Rattle.turn.specs.Stream.{Stream, byScan, streamed}
-use Rattle.nfo_port.specs.Receive.{nfoStream, nfoReceived}
-use Rattle.ascii_port.specs.Receive.{asciiStream, asciiReceived}
+use Rattle.nfo_port.specs.Receive.{nfoStream}
+use Rattle.ascii_port.specs.Receive.{asciiStream}
 use Rattle.receive.specs.Receive.{received}
-use Rattle.receive.proofs.Laws.{by-nfo, by-ascii}
 use Rattle.demands.specs.Calls.{Protocol, Speaks}
 use Rattle.demands.specs.Orders.{scanOf}
 use Rattle.demands.specs.Demand1.{numberIn, NothingTaken}
 use Rattle.demands.specs.Demand3.{nfoSerial, modbusAscii}
+use Rattle.demands.proofs.Demand3.{nfo-calls, ascii-calls}
 use Rattle.demands.proofs.Leaving.{answer-most}
 
 -- ---- a list with something in it is not empty
@@ -103,14 +103,6 @@ module _ (P : Protocol) (S : Stream) (L : Lawful (P .format)) (T : StreamTheorem
       (λ q. k .0 (n .0 (sym i ∙ q)), λ q. i ∙ n .1 (k .1 q))
 
 -- ---- both protocols
-nfo-calls : (c : Card) (x : List ℕ) (room : ℕ) → Speaks nfoSerial c → received c x room ≡ streamed nfoStream c x room
-unfolding nfoReceived
-nfo-calls c x room p = by-nfo c x room (λ q. omega (arith, p, q)) (λ q. omega (arith, p, q))
-
-ascii-calls : (c : Card) (x : List ℕ) (room : ℕ) → Speaks modbusAscii c → received c x room ≡ streamed asciiStream c x room
-unfolding asciiReceived
-ascii-calls c x room p = by-ascii c x room p
-
 pub nfo-nothing : NothingTaken nfoSerial
 nfo-nothing = takes-nothing nfoSerial nfoStream nfo-lawful nfo-stream nfo-follows nfo-calls
 

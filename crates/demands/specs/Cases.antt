@@ -1,6 +1,5 @@
 -- Document 01's ★ cases, one table, one statement: "Fresh start, address 1, unless said". Assumes nothing.
-use mathlib.Core.Path.{_≡_, refl}
-use mathlib.Core.List.{List, [], _∷_, _++_, map}
+use mathlib.Core.List.{List, [], _∷_, _++_}
 use Prim.Native.Nat.{ℕ, zero, suc}
 use lib.ListN.{drop}
 use Rattle.card.specs.declared.state.Card.{Card}

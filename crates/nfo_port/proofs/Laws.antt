@@ -22,7 +22,6 @@ use Rattle.card.specs.declared.state.Card.{Card}
 use Rattle.card.specs.declared.outcome.Outcome.the-variants as Outcomes
 use Rattle.turn.specs.Turn.{cardAfter}
 use Rattle.turn.specs.Stream.{taken}
-use Rattle.turn.specs.declared.Turn.{Turn}
 use Rattle.turn.proofs.Laws.{Does, streamed-used, streamed-uses, streamed-short}
 use Rattle.nfo_port.specs.Receive.{nfoStream, nfoReceived}
 

@@ -1,7 +1,6 @@
 -- A call on bytes of NFO serial: the stream call of its messages. Assumes nothing.
 use mathlib.Core.List.{List}
 use Prim.Native.Nat.{ℕ}
-use Rattle.pending.specs.declared.Pending.{Pending}
 use Rattle.nfo.specs.declared.message.Message.{Message}
 use Rattle.nfo.specs.Parts.{messageOf}
 use Rattle.nfo.specs.Scan.{feeding}
