@@ -11,3 +11,4 @@ pub mod Waiting
 pub mod Hearing
 pub mod Demand1
 pub mod Cases
+pub mod Kept
