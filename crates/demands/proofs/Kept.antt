@@ -1,7 +1,9 @@
--- Each routine keeps MbAdr and our own address at 1 to 247: a write of MbAdr is refused unless it is allowed, and nothing else writes it. Assumes nothing.
+-- Each routine keeps our own address, MbAdr, MODE and SCMD among document 01's numbers: a write of them is refused unless it is allowed, and events only set
+-- SCMD to 0. Assumes nothing.
 use mathlib.Core.Path.{_≡_, refl, sym, ap, _∙_}
+use mathlib.Core.Logic.{_⊎_, inl, inr}
 use mathlib.Core.Bool.{Bool, true, false, not, false≢true}
-use mathlib.Core.List.{List}
+use mathlib.Core.List.{List, [], _∷_}
 use Prim.Native.Nat.{ℕ, suc, _+_, _-_}
 use native.Mathlib.Omega.{arith}
 use borrow.Author.Tests.{not-false, eqb-true, eqb-false, leb-true, ltb-true, ltb-false}
@@ -11,10 +13,10 @@ use lib.Signed.{leZ}
 use lib.ListN.{length, getD, set}
 use lib.Seq.{getD-set-same, getD-set-other, set-out}
 use Rattle.base.specs.Choice.{pick, both, either}
-use Rattle.base.proofs.Tests.{pick-both, both-out}
+use Rattle.base.proofs.Tests.{pick-both, both-out, either-out, either-false}
 use Rattle.table.specs.Table.{rows, lineAt, startWords}
 use Rattle.table.specs.Names.{MbAdr, Mode, Setpoint, MODE, SCMD, Inv-St-ack, SioErr}
-use Rattle.allowed.specs.Allowed.{twos, within, allows, allowedAt}
+use Rattle.allowed.specs.Allowed.{twos, within, member, allows, allowedAt}
 use Rattle.drive.specs.declared.plant.Plant.{Plant}
 use Rattle.drive.specs.declared.plant.Settings.{Settings}
 use Rattle.drive.specs.Plant as Plants
@@ -58,7 +60,7 @@ use Rattle.rtu.specs.Rtu.{frameHolds, addressIn, unitIn}
 use Rattle.ascii_port.specs.Receive.{asciiStream, asciiReceived}
 use Rattle.receive.specs.Receive.{received}
 use Rattle.master_reply.specs.Told.{Within}
-use Rattle.demands.specs.Kept.{Allowed, Addressed, Kept}
+use Rattle.demands.specs.Kept.{Command, Allowed, Addressed, Kept}
 
 -- ---- "MbAdr | 1..247": what the row allows
 narrow : (w : ℕ) (a b : Bool)
@@ -71,6 +73,42 @@ mb-adr : (p : Plant) (w : ℕ) → allowed p MbAdr w ≡ true → Within 1 247 w
 unfolding allowed allowedAt lineAt rows allows within twos
 mb-adr p w h = narrow w (ltb w 0x10000) (ltb w 0x8000) h
 
+-- a list of three, the last of which is repeated
+one-of : (w a b c : ℕ) → either (eqb w a) (either (eqb w b) (either (eqb w c) (either (eqb w c) false))) ≡ true → (w ≡ a) ⊎ ((w ≡ b) ⊎ (w ≡ c))
+one-of w a b c h = go (either-out (eqb w a) _ h)
+  where
+    last : (eqb w c ≡ true) ⊎ (either (eqb w c) false ≡ true) → w ≡ c
+    last (inl e) = eqb-true w c e
+    last (inr e) = eqb-true w c (sym (either-false (eqb w c)) ∙ e)
+
+    next : (eqb w b ≡ true) ⊎ (either (eqb w c) (either (eqb w c) false) ≡ true) → (w ≡ b) ⊎ (w ≡ c)
+    next (inl e) = inl (eqb-true w b e)
+    next (inr e) = inr (last (either-out (eqb w c) (either (eqb w c) false) e))
+
+    go : (eqb w a ≡ true) ⊎ (either (eqb w b) (either (eqb w c) (either (eqb w c) false)) ≡ true) → (w ≡ a) ⊎ ((w ≡ b) ⊎ (w ≡ c))
+    go (inl e) = inl (eqb-true w a e)
+    go (inr e) = inr (next (either-out (eqb w b) (either (eqb w c) (either (eqb w c) false)) e))
+
+listed : (w a b c : ℕ) (x y : Bool)
+    → pick x (member (pick y (pos w) (negsuc (0x8000 + 0x8000 - suc w))) (pos a ∷ pos b ∷ pos c ∷ pos c ∷ [])) false ≡ true → (w ≡ a) ⊎ ((w ≡ b) ⊎ (w ≡ c))
+unfolding member
+listed w a b c false y h = absurd (false≢true h)
+listed w a b c true false h = absurd (false≢true h)
+listed w a b c true true h = one-of w a b c h
+
+mode-one : (p : Plant) (w : ℕ) → allowed p MODE w ≡ true → Within 1 3 w
+unfolding allowed allowedAt lineAt rows allows twos
+mode-one p w h = go (listed w 1 2 3 (ltb w 0x10000) (ltb w 0x8000) h)
+  where
+    go : (w ≡ 1) ⊎ ((w ≡ 2) ⊎ (w ≡ 3)) → Within 1 3 w
+    go (inl e) = (omega (arith, e), omega (arith, e))
+    go (inr (inl e)) = (omega (arith, e), omega (arith, e))
+    go (inr (inr e)) = (omega (arith, e), omega (arith, e))
+
+scmd-one : (p : Plant) (w : ℕ) → allowed p SCMD w ≡ true → Command w
+unfolding allowed allowedAt lineAt rows allows twos
+scmd-one p w h = listed w 0 129 257 (ltb w 0x10000) (ltb w 0x8000) h
+
 -- ---- a write keeps it
 module _ (p : Plant) (keep : Allowed p) (row w : ℕ) where
   -- the word at MbAdr, once a row holds w
@@ -78,14 +116,14 @@ module _ (p : Plant) (keep : Allowed p) (row w : ℕ) where
   set-keeps can = go (eqb row MbAdr) (ltb MbAdr (length (p .settings .words))) refl refl
     where
       go : (same there : Bool) → eqb row MbAdr ≡ same → ltb MbAdr (length (p .settings .words)) ≡ there → Within 1 247 (getD (set (p .settings .words) row w) MbAdr 0)
-      go false there e t = rw (getD-set-other (p .settings .words) row MbAdr w 0 (λ q. eqb-false row MbAdr e (sym q))) keep
+      go false there e t = rw (getD-set-other (p .settings .words) row MbAdr w 0 (λ q. eqb-false row MbAdr e (sym q))) (keep .0)
       go true true e t =
           let r : row ≡ MbAdr = eqb-true row MbAdr e in
           let adr : Within 1 247 w = mb-adr p w (sym (ap (λ (k : ℕ). allowed p k w) r) ∙ can) in
           rw (r, getD-set-same (p .settings .words) MbAdr w 0 (ltb-true MbAdr (length (p .settings .words)) t)) adr
       go true false e t =
           let r : row ≡ MbAdr = eqb-true row MbAdr e in
-          rw (r, set-out (p .settings .words) MbAdr w (ltb-false MbAdr (length (p .settings .words)) t)) keep
+          rw (r, set-out (p .settings .words) MbAdr w (ltb-false MbAdr (length (p .settings .words)) t)) (keep .0)
 
   stored-keeps : allowed p row w ≡ true → Within 1 247 (getD (stored row w (p .settings) .words) MbAdr 0)
   unfolding stored
@@ -96,8 +134,10 @@ module _ (p : Plant) (keep : Allowed p) (row w : ℕ) where
   applied-keeps : allowed p row w ≡ true → Allowed (applied row w p)
   unfolding applied
   applied-keeps can =
-      pick-both Allowed (ltb row MODE) (λ _. stored-keeps can)
-      (λ _. pick-both Allowed (eqb row MODE) (λ _. pick-both Allowed (eqb (p .mode) w) (λ _. keep) (λ _. keep)) (λ _. pick-both Allowed (eqb row SCMD) (λ _. keep) (λ _. keep)))
+      pick-both Allowed (ltb row MODE) (λ _. (stored-keeps can, keep .1, keep .2))
+      (λ _. pick-both Allowed (eqb row MODE)
+      (λ e. pick-both Allowed (eqb (p .mode) w) (λ _. keep) (λ _. (keep .0, mode-one p w (sym (ap (λ (k : ℕ). allowed p k w) (eqb-true row MODE e)) ∙ can), inl refl)))
+      (λ _. pick-both Allowed (eqb row SCMD) (λ e. (keep .0, keep .1, scmd-one p w (sym (ap (λ (k : ℕ). allowed p k w) (eqb-true row SCMD e)) ∙ can))) (λ _. keep)))
 
   pub written-keeps : Allowed (written p row w .plant)
   unfolding written permitOf
@@ -118,7 +158,7 @@ told-keeps p keep row sioerr =
 
 stop-keeps : (p : Plant) → Allowed p → Allowed (stopped p)
 unfolding stopped without14
-stop-keeps p keep = keep
+stop-keeps p keep = (keep .0, keep .1, inl refl)
 
 -- ---- a message served, by either protocol
 module _ (p : Plant) (keep : Allowed p) (sioerr : ℕ) where
@@ -192,7 +232,7 @@ told-event e c p keep = pick-both (λ (a : After). Addressed (a .card)) (e .know
 
 raise-keeps : (n : ℕ) (p : Plant) → Allowed p → Allowed (raised n p .plant)
 unfolding raised flagRaised
-raise-keeps n p keep = pick-both (λ (e : Event). Allowed (e .plant)) (isFault n) (λ _. keep) (λ _. keep)
+raise-keeps n p keep = pick-both (λ (e : Event). Allowed (e .plant)) (isFault n) (λ _. (keep .0, keep .1, inl refl)) (λ _. keep)
 
 end-keeps : (n : ℕ) (p : Plant) → Allowed p → Allowed (ended n p .plant)
 unfolding ended
@@ -201,7 +241,7 @@ end-keeps n p keep = pick-both (λ (e : Event). Allowed (e .plant)) (isFault n) 
 active-keeps : (active : Bool) (p : Plant) → Allowed p → Allowed (withActive active p)
 unfolding withActive
 active-keeps true p keep = keep
-active-keeps false p keep = keep
+active-keeps false p keep = (keep .0, keep .1, inl refl)
 
 measured-keeps : (m : Measured) (p : Plant) → Allowed p → Allowed (withMeasured m p)
 unfolding withMeasured
@@ -211,7 +251,7 @@ measured-keeps (Optime w) p keep = keep
 
 fault-keeps : (bit : ℕ) (c : Card) → Addressed c → Addressed (Events.portFaulted bit c)
 unfolding Events.portFaulted portFault flagRaised
-fault-keeps bit c keep = (pick-both Allowed (eqb (c .plant .mode) 3) (λ _. keep .0) (λ _. keep .0), keep .1)
+fault-keeps bit c keep = (pick-both Allowed (eqb (c .plant .mode) 3) (λ _. (keep .0 .0, keep .0 .1, inl refl)) (λ _. keep .0), keep .1)
 
 tick-keeps : (n : ℕ) (c : Card) → Addressed c → Addressed (Events.ticked n c .card)
 unfolding Events.ticked Events.counted
@@ -222,11 +262,11 @@ tick-keeps n c keep =
 
 started-keeps : (protocol : Protocols.Protocol) → Addressed (State.started protocol)
 unfolding State.started Plants.started startWords rows
-started-keeps protocol = ((omega arith, omega arith), (omega arith, omega arith))
+started-keeps protocol = (((omega arith, omega arith), (omega arith, omega arith), inl refl), (omega arith, omega arith))
 
 restarted-keeps : (c : Card) → Addressed c → Addressed (State.restarted c)
 unfolding State.restarted Plants.restarted
-restarted-keeps c keep = (keep .0, keep .0)
+restarted-keeps c keep = ((keep .0 .0, (omega arith, omega arith), inl refl), keep .0 .0)
 
 din1-keeps : (active : Bool) (c : Card) → Addressed c → Addressed (Events.din1Set active c .card)
 unfolding Events.din1Set Events.happened

@@ -1,5 +1,7 @@
--- What each routine keeps of a card, so that what demand 2 asks of our own address holds of every card that the routines make. That it holds is `kept`, in
--- proofs/Kept.antt. Assumes nothing.
+-- What each routine keeps of a card: our own address, MODE and SCMD are numbers of document 01's. So what demand 2 asks of our own address holds of every card
+-- that the routines make. That it holds is `kept`, in proofs/Kept.antt. Assumes nothing.
+use mathlib.Core.Path.{_≡_}
+use mathlib.Core.Logic.{_⊎_}
 use mathlib.Core.Bool.{Bool}
 use mathlib.Core.List.{List}
 use Prim.Native.Nat.{ℕ}
@@ -14,9 +16,12 @@ use Rattle.card.specs.declared.state.Protocol as Protocols
 use Rattle.receive.specs.Receive.{received}
 use Rattle.master_reply.specs.Told.{Within}
 
--- "MbAdr | 1..247"
+-- "MbAdr | 1..247", "MODE | 1, 2, 3", "SCMD | 0, 129, 257"
+abbrev pub Command : ℕ → Type 0
+Command w = (w ≡ 0) ⊎ ((w ≡ 129) ⊎ (w ≡ 257))
+
 abbrev pub Allowed : Plant → Type 0
-Allowed p = Within 1 247 (getD (p .settings .words) MbAdr 0)
+Allowed p = Within 1 247 (getD (p .settings .words) MbAdr 0) × Within 1 3 (p .mode) × Command (p .scmd)
 
 -- "Addresses 1 to 247; ours is what MbAdr held at the last start or restart"
 abbrev pub Addressed : Card → Type 0
