@@ -3,16 +3,17 @@ use mathlib.Core.Path.{_≡_, refl}
 use mathlib.Core.Bool.{true}
 use mathlib.Core.List.{List, [], _∷_, _++_, map}
 use Prim.Native.Nat.{ℕ}
+use Rattle.base.specs.Bytes.{same}
 use Rattle.stream.specs.Reading.{Yield}
 use Rattle.stream.specs.Automaton.{feed, feedAll}
 use Rattle.hex.specs.Hex.{isHex, allHex, digitValue, digitOf, pairValue, hexOf, bytesOf}
 use Rattle.checks.specs.Lrc.{sumOf, addsToZero, lrcOf}
-use Rattle.modbus.specs.Words.{wordBytes, wordAt}
+use Rattle.modbus_words.specs.Words.{wordBytes, wordAt}
 use Rattle.modbus.specs.Request.{reads, asked, requestOf}
 use Rattle.modbus.specs.Answer.{unitOf}
 use Rattle.modbus.specs.declared.requests.Request.{Request}
-use Rattle.modbus.specs.declared.answers.Answer.{Answer}
-use Rattle.ascii.specs.Ascii.{textOf, bytesIn, counted, right, same, formed, free, lrcBegun, full, goesOn, begun, viable, ascii, asciiOf, addressIn, unitIn}
+use Rattle.modbus.specs.declared.replies.Answer.{Answer}
+use Rattle.ascii.specs.Ascii.{textOf, bytesIn, counted, right, formed, free, lrcBegun, full, goesOn, begun, viable, ascii, asciiOf, addressIn, unitIn}
 use Rattle.ascii.specs.Cases.{requests, replies, streams}
 
 pub all-formed : map formed (map (λ (t : List ℕ × ℕ × Request). t .0) requests ++ map (λ (t : List ℕ × ℕ × Answer). t .0) replies) ≡ true ∷ true ∷ true ∷ true ∷ true ∷ []

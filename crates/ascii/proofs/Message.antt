@@ -7,30 +7,13 @@ use native.Mathlib.Omega.{arith}
 use borrow.Author.Tests.{eq-eqb, eqb-true, leb-true, le-leb}
 use lib.Dec.{leb, eqb}
 use lib.ListN.{length, length-append}
-use Rattle.base.specs.Bytes.{AllBelow, Bytes}
+use Rattle.base.specs.Bytes.{AllBelow, Bytes, same}
 use Rattle.base.proofs.Tests.{both-out, both-in}
-use Rattle.base.proofs.Lists.{below-append}
+use Rattle.base.proofs.Lists.{below-append, same-out, same-in}
 use Rattle.hex.specs.Hex.{isHex, allHex, digitValue, pairValue, hexOf, bytesOf}
 use Rattle.hex.proofs.RoundTrip.{hex-range, length-hex, hex-all, bytes-of-hex, bytes-below, hex-whole, bytes-append}
 use Rattle.checks.specs.Lrc.{addsToZero}
-use Rattle.ascii.specs.Ascii.{textOf, bytesIn, counted, right, same, formed}
-
--- ---- the same bytes
-same-out : (s t : List ℕ) → same s t ≡ true → s ≡ t
-unfolding same
-same-out [] [] e = refl
-same-out [] (y ∷ t) e = absurd (false≢true e)
-same-out (x ∷ s) [] e = absurd (false≢true e)
-same-out (x ∷ s) (y ∷ t) e =
-    let h = both-out (eqb x y) (same s t) e in
-    let p : x ≡ y = eqb-true x y (h .0) in
-    let q : s ≡ t = same-out s t (h .1) in
-    cc
-
-same-in : (s : List ℕ) → same s s ≡ true
-unfolding same
-same-in [] = refl
-same-in (x ∷ s) = both-in (eq-eqb x x refl) (same-in s)
+use Rattle.ascii.specs.Ascii.{textOf, bytesIn, counted, right, formed}
 
 -- ---- the pairs end at CR
 pub cr-none : (z : List ℕ) → bytesOf (0x0D ∷ z) ≡ []

@@ -10,7 +10,7 @@ use Rattle.base.proofs.Sets.{take-sets}
 use Rattle.checks.specs.Lrc.{lrcOf}
 use Rattle.modbus.specs.Answer.{unitOf}
 use Rattle.modbus.specs.Reply.{replyIn}
-use Rattle.modbus.specs.declared.answers.Answer.{Answer}
+use Rattle.modbus.specs.declared.replies.Answer.{Answer}
 use Rattle.modbus.proofs.Units.{unit-short}
 use Rattle.modbus.proofs.Buffers.{reply-all}
 use Rattle.ascii.specs.Ascii.{textOf, asciiOf}

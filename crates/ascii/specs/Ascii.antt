@@ -5,6 +5,7 @@ use Prim.Native.Nat.{ℕ, _-_, _/_}
 use lib.Dec.{leb, eqb}
 use lib.ListN.{length, take, drop, getD}
 use Rattle.base.specs.Choice.{both, either}
+use Rattle.base.specs.Bytes.{same}
 use Rattle.stream.specs.Format.{Format}
 use Rattle.hex.specs.Hex.{allHex, digitOf, hexOf, bytesOf}
 use Rattle.checks.specs.Lrc.{addsToZero, lrcOf}
@@ -23,13 +24,6 @@ counted bytes = both (leb 3 (length bytes)) (leb (length bytes) 255)
 
 unfoldable pub right : List ℕ → Bool
 right bytes = both (counted bytes) (addsToZero bytes)
-
--- the same bytes
-unfoldable pub same : List ℕ → List ℕ → Bool
-same [] [] = true
-same [] (y ∷ t) = false
-same (x ∷ s) [] = false
-same (x ∷ s) (y ∷ t) = both (eqb x y) (same s t)
 
 -- a message is the text of its bytes, and these are right
 unfoldable pub formed : List ℕ → Bool

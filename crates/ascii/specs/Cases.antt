@@ -5,8 +5,8 @@ use Rattle.stream.specs.Reading.{Yield, waiting, taking}
 use Rattle.modbus.specs.Request.{label}
 use Rattle.modbus.specs.declared.requests.Request.{Request}
 use Rattle.modbus.specs.declared.requests.Request.the-variants.{Read}
-use Rattle.modbus.specs.declared.answers.Answer.{Answer}
-use Rattle.modbus.specs.declared.answers.Answer.the-variants.{Word, Exception}
+use Rattle.modbus.specs.declared.replies.Answer.{Answer}
+use Rattle.modbus.specs.declared.replies.Answer.the-variants.{Word, Exception}
 
 -- `:01030294000165`, `:0103070C0001E8`, `:000302A4000156`
 abbrev pub ask-0294 : List ℕ

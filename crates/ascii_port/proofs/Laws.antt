@@ -7,30 +7,35 @@ use lib.ListN.{length, getD, take, drop, length-append}
 use Rattle.base.specs.Buffers.{front}
 use Rattle.base.proofs.Sets.{take-front}
 use Rattle.pending.specs.declared.Pending.{Pending}
-use Rattle.pending.specs.declared.Scan.{Scan}
+use Rattle.pending.specs.Scanning.{Scan, scanIn}
+use Rattle.pending.specs.declared.Scanned.{Scanned}
 use Rattle.pending.specs.Held.{held}
 use Rattle.ascii.specs.Ascii.{bytesIn}
 use Rattle.ascii.proofs.Replies as Replies
 use Rattle.ascii_scan.specs.Parts.{unitAmong}
-use Rattle.modbus_service.specs.Reply.{exchanged}
+use Rattle.drive.specs.Plant.{plantOf}
+use Rattle.modbus_service.specs.Reply.{exchangedIn, exchanged}
 use Rattle.modbus_service.specs.declared.Exchange.{Exchange}
 use Rattle.modbus_service.specs.declared.Reply.{Reply}
 use Rattle.modbus_service.specs.declared.Reply.the-variants.{Nothing, Data}
 use Rattle.card.specs.declared.state.Card.{Card}
 use Rattle.card.specs.declared.outcome.Outcome.the-variants as Outcomes
-use Rattle.turn.specs.Turn.{cardAfter}
+use Rattle.turn.specs.Core.{cardOf, turnIn, coreAfter}
+use Rattle.turn.specs.declared.Core.{Core}
 use Rattle.turn.specs.Stream.{taken}
 use Rattle.turn.specs.declared.Turn.{Turn}
-use Rattle.turn.proofs.Laws.{Does, streamed-used, streamed-uses, streamed-short}
+use Rattle.turn.proofs.Laws.{Does, after-in, streamed-used, streamed-uses, streamed-short}
 use Rattle.ascii_port.specs.Receive.{exchangeOn, replyText, answeredBy, asciiStream, asciiReceived}
 
--- ---- a message's bytes are served
-module _ (c after : Card) (scan : Scan) (message unit : List ℕ) (address : ℕ) (e : Exchange) (n : ℕ) (out before : List ℕ)
-    (from : address ≡ getD message 0 0) (has : unit ≡ unitAmong message) (serves : e ≡ exchanged (c .plant) (c .port .sioerr) (c .station) address unit)
+-- ---- a message's bytes are served: the arrays `held`, `words` are lent, and `words′` are the settings then
+module _ (held words words′ : List ℕ) (k after : Core) (scan : Scanned) (message unit : List ℕ) (address : ℕ) (e : Exchange) (n : ℕ) (out before : List ℕ)
+    (from : address ≡ getD message 0 0) (has : unit ≡ unitAmong message)
+    (serves : exchangedIn words′ e ≡ exchanged (plantOf words (k .drive)) (k .sioerr) (k .station) address unit)
     (puts : (n ≡ length (replyText address (e .reply))) × (out ≡ front (replyText address (e .reply)) before))
-    (leaves : after ≡ cardAfter c (scan .pending) (e .served)) where
-  pub answers : Does (record { card = after; outcome = Outcomes.Served (e .served .answer); used = scan .used; len = n }) out (answeredBy c scan message) before
-  answers = rw (← has, ← from, ← serves, leaves, puts .0) (refl, puts .1)
+    (leaves : after ≡ coreAfter k (e .done)) where
+  pub answers : Does (turnIn held words′ (record { core = after; outcome = Outcomes.Served (e .done .answer); used = scan .used; len = n })) out
+      (answeredBy (cardOf held words k) (scanIn held scan) message) before
+  answers = rw (← has, ← from, ← serves, leaves, puts .0, after-in held words held words′ (scan .len) k (e .done)) (refl, puts .1)
 
 -- ---- they are decoded from the text that is held
 module _ (p : Pending) (n : ℕ) (m before : List ℕ) (decodes : (n ≡ length (bytesIn (held p))) × (m ≡ front (bytesIn (held p)) before)) where

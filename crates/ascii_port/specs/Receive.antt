@@ -2,20 +2,19 @@
 use mathlib.Core.List.{List}
 use Prim.Native.Nat.{ℕ}
 use lib.ListN.{getD}
-use Rattle.pending.specs.declared.Scan.{Scan}
 use Rattle.pending.specs.Held.{held}
+use Rattle.pending.specs.Scanning.{Scan}
 use Rattle.ascii.specs.Ascii.{bytesIn, asciiOf}
 use Rattle.ascii_scan.specs.Scan.{feeding}
 use Rattle.ascii_scan.specs.Parts.{unitAmong}
-use Rattle.modbus_service.specs.Reply.{sentBy, exchanged}
-use Rattle.modbus_service.specs.declared.Exchange.{Exchange}
+use Rattle.modbus_service.specs.Reply.{sentBy, Exchanged, exchanged}
 use Rattle.modbus_service.specs.declared.Reply.{Reply}
 use Rattle.card.specs.declared.state.Card.{Card}
 use Rattle.turn.specs.Turn.{Received, answered}
 use Rattle.turn.specs.Stream.{Stream, streamed}
 
 -- what a message comes to, on this card: its first byte is the address, its last the LRC, and between them stands the data unit
-abbrev pub exchangeOn : Card → List ℕ → Exchange
+abbrev pub exchangeOn : Card → List ℕ → Exchanged
 exchangeOn c message = exchanged (c .plant) (c .port .sioerr) (c .station) (getD message 0 0) (unitAmong message)
 
 -- the reply's text, from the request's address

@@ -5,9 +5,8 @@ use mathlib.Core.List.{List, map}
 use Prim.Native.Nat.{ℕ}
 use Rattle.hex.specs.Hex.{isHex, digitValue, digitOf, pairValue, bytesOf}
 use Rattle.checks.specs.Lrc.{sumOf, addsToZero, lrcOf}
-use Rattle.pending.specs.declared.Scan.{Scan}
 use Rattle.pending.specs.Held.{held, empty, emptied, pushed, restarted}
-use Rattle.pending.specs.Scanning.{scanFrom}
+use Rattle.pending.specs.Scanning.{Scan, scanFrom}
 use Rattle.ascii.specs.Ascii.{bytesIn, counted, right}
 use Rattle.ascii_scan.specs.Scan.{ended, digitFits, crFits, goesOn, again, ends, fed, feeding}
 use Rattle.ascii_scan.specs.Cases.{scans}

@@ -1,24 +1,14 @@
 // The bytes that a message spells.
 use crate::scanning::count_held;
-use pending::Pending;
 ghost use mathlib.Core.Path.{_≡_};
 ghost use lib.ListN.{length, take};
 ghost use Rattle.base.specs.Buffers.{front};
-ghost use Rattle.pending.specs.Held.{held};
 ghost use Rattle.ascii.specs.Ascii.{bytesIn};
 ghost use Rattle.ascii_scan.specs.Parts.{unitAmong};
 
-// Puts the bytes that the pairs of the message held spell at the start of `out`, the LRC last, and tells how many there are. Other bytes held are read
+// Puts the bytes that the pairs of the message in the first `n` bytes of `held` spell at the start of `out`, the LRC last, and tells how many there are. Other bytes held are read
 // the same way, from the second on and up to the first pair that spells no byte.
-pub fn message_bytes(pending: Pending, out: &mut [u8; 256]) -> usize
-    ensures count { λ r. ⌜ r ≡ length (bytesIn (held pending)) ⌝ }
-    ensures lent { λ _. ⌜ now (out .exit) ≡ front (bytesIn (held pending)) (now (out .entry)) ⌝ }
-{
-    let n = pending.len;
-    bytes_in(&pending.bytes, n, out)
-}
-
-fn bytes_in(held: &[u8; 512], n: usize, out: &mut [u8; 256]) -> usize
+pub fn message_bytes(held: &[u8; 512], n: usize, out: &mut [u8; 256]) -> usize
     ensures count { λ r. ⌜ r ≡ length (bytesIn (take n (now (held .entry)))) ⌝ }
     ensures lent { λ _. ⌜ now (out .exit) ≡ front (bytesIn (take n (now (held .entry)))) (now (out .entry)) ⌝ }
 {

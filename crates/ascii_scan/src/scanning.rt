@@ -2,8 +2,7 @@
 use crate::pairs::cr_fits;
 use crate::pairs::digit_fits;
 use hex::Digit;
-use pending::Pending;
-use pending::Scan;
+use pending::Scanned;
 use pending::push;
 use pending::restart;
 ghost use mathlib.Core.Path.{_≡_};
@@ -12,7 +11,7 @@ ghost use lib.Dec.{ltb};
 ghost use lib.ListN.{length, drop};
 ghost use Rattle.base.specs.Choice.{both};
 ghost use Rattle.hex.specs.Hex.{isHex};
-ghost use Rattle.pending.specs.Scanning.{scanFrom};
+ghost use Rattle.pending.specs.Scanning.{scanFrom, scanIn};
 ghost use Rattle.ascii_scan.specs.Scan.{ended, goesOn, again, ends, fed, feeding};
 
 // What is pending after a byte, and whether a message has ended.
@@ -27,37 +26,31 @@ struct Run {
     place: usize,
 }
 
-// Scans for the first message: uses the bytes up to its end, or all. A byte is tested once, at its place.
+// Scans for the first message: uses the bytes up to its end, or all. A byte is tested once, at its place. The bytes pending are the first `len` of
+// `held`, and stay there.
 //
 // What is pending is taken for a beginning: of its bytes only the last is looked at again; at CR and from the 509th digit on, the digits are summed.
 // Bits that are no beginning are taken for one too, by their count and those bytes. The LF of a message is not held.
-pub fn scan(pending: Pending, bytes: &[u8]) -> Scan
-    ensures { λ r. ⌜ r ≡ scanFrom feeding pending 0 (now (bytes .entry)) ⌝ }
+pub fn scan(held: &mut [u8; 512], len: usize, bytes: &[u8]) -> Scanned
+    ensures { λ r. ⌜ scanIn (now (held .exit)) r ≡ scanFrom feeding (record { bytes = now (held .entry); len = len }) 0 (now (bytes .entry)) ⌝ }
 {
-    let mut held = pending.bytes;
-    let mut n = pending.len;
+    let mut n = len;
     let mut i: usize = 0;
     while i < bytes.len() {
-        let f = feed(&mut held, n, bytes[i]);
+        let f = feed(held, n, bytes[i]);
         if f.taken {
-            return Scan {
-                pending: Pending {
-                    bytes: held,
-                    len: f.len,
-                },
+            return Scanned {
+                len: f.len,
                 used: i + 1,
                 taken: true,
             };
         }
-        let r = push_digits(&mut held, f.len, bytes, i + 1);
+        let r = push_digits(held, f.len, bytes, i + 1);
         n = r.len;
         i = r.place;
     }
-    Scan {
-        pending: Pending {
-            bytes: held,
-            len: n,
-        },
+    Scanned {
+        len: n,
         used: bytes.len(),
         taken: false,
     }

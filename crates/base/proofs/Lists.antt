@@ -1,12 +1,33 @@
 -- Lists of bytes, and loops that fold over them. Assumes nothing.
 use mathlib.Core.Path.{_≡_, refl, sym, _∙_}
+use mathlib.Core.Bool.{true, false≢true}
 use mathlib.Core.List.{List, [], _∷_, _++_, foldl}
 use Prim.Native.Nat.{ℕ, zero, suc, _+_, _≤_, _<_}
 use native.Mathlib.Numerals.{add-one}
 use native.Mathlib.Omega.{arith}
+use borrow.Author.Tests.{eq-eqb, eqb-true}
+use lib.Dec.{eqb}
 use lib.ListN.{length, take, drop, getD, length-drop, drop-of-length-le}
 use lib.Seq.{drop-cons, take-append-le, drop-append-le}
-use Rattle.base.specs.Bytes.{AllBelow}
+use Rattle.base.specs.Bytes.{AllBelow, same}
+use Rattle.base.proofs.Tests.{both-out, both-in}
+
+-- ---- the same bytes
+pub same-out : (s t : List ℕ) → same s t ≡ true → s ≡ t
+unfolding same
+same-out [] [] e = refl
+same-out [] (y ∷ t) e = absurd (false≢true e)
+same-out (x ∷ s) [] e = absurd (false≢true e)
+same-out (x ∷ s) (y ∷ t) e =
+    let h = both-out (eqb x y) (same s t) e in
+    let p : x ≡ y = eqb-true x y (h .0) in
+    let q : s ≡ t = same-out s t (h .1) in
+    cc
+
+pub same-in : (s : List ℕ) → same s s ≡ true
+unfolding same
+same-in [] = refl
+same-in (x ∷ s) = both-in (eq-eqb x x refl) (same-in s)
 
 -- ---- numbers below a bound
 pub below-elements : (n : ℕ) (s : List ℕ) → ((i : ℕ) → i < length s → getD s i 0 < n) → AllBelow n s

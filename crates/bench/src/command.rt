@@ -7,6 +7,7 @@ use crate::spelling::Bytes;
 use crate::spelling::Spelling;
 use crate::words;
 use card::Protocol;
+use protocols::Named;
 
 // A command. Where it has a HEX, its last number tells how many bytes that spells; the first of `Call` is the buffer's size.
 pub enum Command {
@@ -48,17 +49,11 @@ fn alone(name: &[u8]) -> Command {
 }
 
 // `start P`
-fn start(protocol: &[u8]) -> Command {
-    if check::same(protocol, b"nfo") {
-        return Command::Start(Protocol::Nfo);
-    }
-    if check::same(protocol, b"rtu") {
-        return Command::Start(Protocol::Rtu);
-    }
-    if check::same(protocol, b"ascii") {
-        return Command::Start(Protocol::Ascii);
-    }
-    Command::NotACommand
+fn start(word: &[u8]) -> Command {
+    let Named::Protocol(protocol) = protocols::protocol_of(word) else {
+        return Command::NotACommand;
+    };
+    Command::Start(protocol)
 }
 
 // `din1 0`, `din1 1`

@@ -119,16 +119,17 @@ fn state(out: &mut Out, card: Card) {
     let plant = card.plant;
     let settings = plant.settings;
     let rows = settings.words;
+    let drive = plant.drive;
     let others = [
-        plant.mode,
-        plant.scmd,
+        drive.mode,
+        drive.scmd,
         port.sioerr,
-        plant.frq,
-        plant.rms,
-        plant.optime,
-        plant.din1,
-        plant.causes,
-        plant.flags,
+        drive.frq,
+        drive.rms,
+        drive.optime,
+        drive.din1,
+        drive.causes,
+        drive.flags,
         port.sum,
         card.station,
     ];

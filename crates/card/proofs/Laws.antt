@@ -3,8 +3,9 @@ use mathlib.Core.Path.{_≡_, ap, _∙_}
 use Prim.Native.Nat.{ℕ, _+_, _≤_, _<_}
 use borrow.Author.Tests.{lt-ltb, le-ltb, ne-eqb}
 use lib.Bits.{bitOr}
+use Rattle.drive.specs.declared.plant.Drive.{Drive}
 use Rattle.drive.specs.declared.plant.Plant.{Plant}
-use Rattle.drive.specs.Plant as Drive
+use Rattle.drive.specs.Plant as Plants
 use Rattle.drive.specs.Events.{portFault}
 use Rattle.pending.specs.declared.Pending.{Pending}
 use Rattle.pending.specs.Held as Held
@@ -16,27 +17,27 @@ use Rattle.card.specs.declared.events.After.{After}
 use Rattle.card.specs.declared.outcome.Outcome.the-variants.{Done}
 
 -- the parts of the state, each as its routine made it
-pub started-of : (protocol : Protocol) (n : ℕ) (p : Plant) (held : Pending) → p ≡ Drive.started → held ≡ Held.empty → n ≡ protocolNumber protocol
+pub started-of : (protocol : Protocol) (n : ℕ) (p : Plant) (held : Pending) → p ≡ Plants.started → held ≡ Held.empty → n ≡ protocolNumber protocol
     → _≡_ {A = Card} (record { port = freshPort held n; plant = p; station = stationOf p }) (started protocol)
 unfolding started
 started-of protocol n p held a b d = rw (a, b, d)
 
-pub restarted-of : (c : Card) (p : Plant) (held : Pending) → p ≡ Drive.restarted (c .plant) → held ≡ Held.emptied (c .port .pending)
+pub restarted-of : (c : Card) (p : Plant) (held : Pending) → p ≡ Plants.restarted (c .plant) → held ≡ Held.emptied (c .port .pending)
     → record { port = freshPort held (c .port .protocol); plant = p; station = stationOf p } ≡ restarted c
 unfolding restarted
 restarted-of c p held a b = rw (a, b)
 
 -- a fault of the port, and one that the host tells
-pub faulted-of : (c : Card) (p : Plant) (bit : ℕ) → p ≡ portFault (c .plant)
-    → record { port = withSioerr (bitOr (c .port .sioerr) bit) (c .port); plant = p; station = c .station } ≡ portFaulted bit c
+pub faulted-of : (c : Card) (d : Drive) (bit : ℕ) → d ≡ portFault (c .plant .drive)
+    → record { port = withSioerr (bitOr (c .port .sioerr) bit) (c .port); plant = Plants.withDrive d (c .plant); station = c .station } ≡ portFaulted bit c
 unfolding portFaulted
-faulted-of c p bit a = rw a
+faulted-of c d bit a = rw a
 
 pub parity-of : (c k : Card) → k ≡ portFaulted 2 c → _≡_ {A = After} (record { card = k; outcome = Done }) (parityTold c)
 unfolding parityTold
 parity-of c k a = rw a
 
--- an event on the plant, told to the card
+-- an event on the drive, told to the card
 pub lifted : {A : Type 0} (say : A → Card → After) (c : Card) (a b : A) (r : After) → a ≡ b → r ≡ say a c → r ≡ say b c
 lifted say c a b r h e = rw (← h) e
 

@@ -6,44 +6,45 @@ use lib.Dec.{eqb, ltb}
 use lib.ListN.{getD}
 use Rattle.base.specs.Choice.{pick, either}
 use Rattle.table.specs.Names.{SioTot}
-use Rattle.drive.specs.declared.plant.Plant.{Plant}
+use Rattle.drive.specs.declared.plant.Drive.{Drive}
 use Rattle.drive.specs.declared.events.Event.{Event}
 use Rattle.drive.specs.declared.events.Measured.{Measured}
+use Rattle.drive.specs.Plant.{withDrive}
 use Rattle.drive.specs.Events.{raised, ended, portFault, withActive, withMeasured}
-use Rattle.card.specs.State.{withSioerr, withPlant, cardSum}
+use Rattle.card.specs.State.{withSioerr, cardDrive, cardSum}
 use Rattle.card.specs.declared.state.Card.{Card}
 use Rattle.card.specs.declared.events.After.{After}
 use Rattle.card.specs.declared.outcome.Outcome.the-variants.{Done, NoSuchEvent}
 
--- "Start, restart and each host event hand back the whole state": the card with this plant, outcome 0
-unfoldable pub happened : Plant → Card → After
-happened plant c = record { card = withPlant plant c; outcome = Done }
+-- "Start, restart and each host event hand back the whole state": the card with this drive, outcome 0
+unfoldable pub happened : Drive → Card → After
+happened drive c = record { card = cardDrive drive c; outcome = Done }
 
 -- "host event number not allowed": 12, and nothing changes
 abbrev pub refused : Card → After
 refused c = record { card = c; outcome = NoSuchEvent }
 
 unfoldable pub told : Event → Card → After
-told event c = pick (event .known) (happened (event .plant) c) (refused c)
+told event c = pick (event .known) (happened (event .drive) c) (refused c)
 
 -- "The host raises one (both set) or ends a cause (the flag stays)"
 unfoldable pub faultRaised : ℕ → Card → After
-faultRaised n c = told (raised n (c .plant)) c
+faultRaised n c = told (raised n (c .plant .drive)) c
 
 unfoldable pub causeEnded : ℕ → Card → After
-causeEnded n c = told (ended n (c .plant)) c
+causeEnded n c = told (ended n (c .plant .drive)) c
 
 unfoldable pub din1Set : Bool → Card → After
-din1Set active c = happened (withActive active (c .plant)) c
+din1Set active c = happened (withActive active (c .plant .drive)) c
 
 -- "The host sets FrqAct, I-rms and OpTime freely in their widths"
 unfoldable pub measuredSet : Measured → Card → After
-measuredSet measured c = happened (withMeasured measured (c .plant)) c
+measuredSet measured c = happened (withMeasured measured (c .plant .drive)) c
 
 -- "SioErr (ours): bit 0 time-out, bit 1 parity fault told by the host. Either one at MODE 3 also raises flag 14"
 unfoldable pub portFaulted : ℕ → Card → Card
 portFaulted bit c =
-    record { port = withSioerr (bitOr (c .port .sioerr) bit) (c .port); plant = portFault (c .plant); station = c .station }
+    record { port = withSioerr (bitOr (c .port .sioerr) bit) (c .port); plant = withDrive (portFault (c .plant .drive)) (c .plant); station = c .station }
 
 unfoldable pub parityTold : Card → After
 parityTold c = record { card = portFaulted 2 c; outcome = Done }

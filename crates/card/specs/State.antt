@@ -2,8 +2,9 @@
 use Prim.Native.Nat.{ℕ}
 use lib.ListN.{getD}
 use Rattle.table.specs.Names.{MbAdr}
+use Rattle.drive.specs.declared.plant.Drive.{Drive}
 use Rattle.drive.specs.declared.plant.Plant.{Plant}
-use Rattle.drive.specs.Plant as Drive
+use Rattle.drive.specs.Plant as Plants
 use Rattle.pending.specs.declared.Pending.{Pending}
 use Rattle.pending.specs.Held as Held
 use Rattle.card.specs.declared.state.Card.{Card}
@@ -27,6 +28,9 @@ withPort x c = record { port = x; plant = c .plant; station = c .station }
 abbrev pub withPlant : Plant → Card → Card
 withPlant x c = record { port = c .port; plant = x; station = c .station }
 
+abbrev pub cardDrive : Drive → Card → Card
+cardDrive x c = withPlant (Plants.withDrive x (c .plant)) c
+
 abbrev pub cardSum : ℕ → Card → Card
 cardSum x c = withPort (withSum x (c .port)) c
 
@@ -45,13 +49,13 @@ abbrev pub freshPort : Pending → ℕ → Port
 freshPort pending protocol = record { pending = pending; protocol = protocol; sum = 0; sioerr = 0 }
 
 unfoldable pub started : Protocol → Card
-started protocol = record { port = freshPort Held.empty (protocolNumber protocol); plant = Drive.started; station = stationOf Drive.started }
+started protocol = record { port = freshPort Held.empty (protocolNumber protocol); plant = Plants.started; station = stationOf Plants.started }
 
 -- "Restart keeps rows 301 to 322, DIN1, causes and measured numbers; .. SioErr and sum 0, nothing pending"
 unfoldable pub restarted : Card → Card
 restarted c =
     record {
       port = freshPort (Held.emptied (c .port .pending)) (c .port .protocol);
-      plant = Drive.restarted (c .plant);
-      station = stationOf (Drive.restarted (c .plant));
+      plant = Plants.restarted (c .plant);
+      station = stationOf (Plants.restarted (c .plant));
     }

@@ -1,9 +1,9 @@
 // Host events: each hands back the whole card and its outcome, 0 or 12.
 use crate::outcome::Outcome;
 use crate::state::Card;
+use drive::Drive;
 use drive::Event;
 use drive::Measured;
-use drive::Plant;
 use table::names::SIO_TOT;
 ghost use mathlib.Core.Path.{_≡_};
 ghost use Rattle.card.specs.Events.{happened, told, faultRaised, causeEnded, din1Set, measuredSet, parityTold, portFaulted, limitOf, counted, ticked};
@@ -21,7 +21,8 @@ impl Card {
         ensures { λ r. ⌜ r ≡ faultRaised n self ⌝ }
     {
         let plant = self.plant;
-        self.told(plant.raise_fault(n))
+        let drive = plant.drive;
+        self.told(drive.raise_fault(n))
     }
 
     // The host ends the cause of fault n: 1 to 13 or 16 to 23, else 12.
@@ -29,7 +30,8 @@ impl Card {
         ensures { λ r. ⌜ r ≡ causeEnded n self ⌝ }
     {
         let plant = self.plant;
-        self.told(plant.end_cause(n))
+        let drive = plant.drive;
+        self.told(drive.end_cause(n))
     }
 
     // DIN1 becomes active or inactive.
@@ -37,7 +39,8 @@ impl Card {
         ensures { λ r. ⌜ r ≡ din1Set active self ⌝ }
     {
         let plant = self.plant;
-        self.happened(plant.set_din1(active))
+        let drive = plant.drive;
+        self.happened(drive.set_din1(active))
     }
 
     // FrqAct, I-rms or OpTime is measured.
@@ -45,7 +48,8 @@ impl Card {
         ensures { λ r. ⌜ r ≡ measuredSet measured self ⌝ }
     {
         let plant = self.plant;
-        self.happened(plant.measure(measured))
+        let drive = plant.drive;
+        self.happened(drive.measure(measured))
     }
 
     // The host tells a parity fault: bit 1 of SioErr, and at MODE 3 flag 14.
@@ -122,8 +126,10 @@ impl Card {
     fn port_fault(self, bit: u32) -> Card
         ensures { λ r. ⌜ r ≡ portFaulted bit self ⌝ }
     {
-        let before = self.plant;
-        let plant = before.port_fault();
+        let mut plant = self.plant;
+        let before = plant.drive;
+        let drive = before.port_fault();
+        plant.drive = drive;
         let mut port = self.port;
         port.sioerr = port.sioerr | bit;
         Card {
@@ -133,10 +139,12 @@ impl Card {
         }
     }
 
-    // An event that changed the plant.
-    fn happened(self, plant: Plant) -> After
-        ensures { λ r. ⌜ r ≡ happened plant self ⌝ }
+    // An event that changed the drive.
+    fn happened(self, drive: Drive) -> After
+        ensures { λ r. ⌜ r ≡ happened drive self ⌝ }
     {
+        let mut plant = self.plant;
+        plant.drive = drive;
         let mut card = self;
         card.plant = plant;
         After {
@@ -150,8 +158,8 @@ impl Card {
         ensures { λ r. ⌜ r ≡ told event self ⌝ }
     {
         if event.known {
-            let plant = event.plant;
-            return self.happened(plant);
+            let drive = event.drive;
+            return self.happened(drive);
         }
         After {
             card: self,

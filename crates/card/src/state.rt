@@ -13,6 +13,7 @@ pub enum Protocol {
 }
 
 // What belongs to one line: the bytes pending, the protocol, the time sum in tenths, SioErr.
+#[repr(C)]
 pub struct Port {
     pub pending: Pending,
     pub protocol: u32,
@@ -21,6 +22,7 @@ pub struct Port {
 }
 
 // The whole state. Every bit pattern is a card. `station` is what MbAdr held at the last start or restart.
+#[repr(C)]
 pub struct Card {
     pub port: Port,
     pub plant: Plant,

@@ -21,11 +21,11 @@ use Rattle.pending.specs.Held as Held
 use Rattle.pending.specs.Scanning.{scanFrom}
 use Rattle.nfo.specs.Message.{enquiry, select, bccIn}
 use Rattle.nfo.specs.Scan as Nfo
-use Rattle.nfo.specs.Parts.{valueAt, parameterAt, messageOf}
-use Rattle.nfo.specs.Replies.{digitsOf, bodyOf, replyOf, ackOf, nakOf}
+use Rattle.nfo_parts.specs.Parts.{valueAt, parameterAt, messageOf}
+use Rattle.nfo_parts.specs.Replies.{digitsOf, bodyOf, replyOf, ackOf, nakOf}
 use Rattle.nfo_service.specs.Serve as Serve
 use Rattle.nfo_service.specs.Reply as Reply
-use Rattle.modbus.specs.Words.{wordAt, wordBytes, longBytes}
+use Rattle.modbus_words.specs.Words.{wordAt, wordBytes, longBytes}
 use Rattle.modbus.specs.Request.{asked, reads, requestOf}
 use Rattle.modbus.specs.Answer.{unitOf}
 use Rattle.modbus_service.specs.Serve as Modbus

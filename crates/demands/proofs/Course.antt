@@ -9,8 +9,7 @@ use lib.ListN.{drop}
 use Rattle.base.specs.Choice.{pick}
 use Rattle.base.proofs.Tests.{pick-both}
 use Rattle.pending.specs.declared.Pending.{Pending}
-use Rattle.pending.specs.declared.Scan.{Scan}
-use Rattle.pending.specs.Scanning.{scanFrom}
+use Rattle.pending.specs.Scanning.{Scan, scanFrom}
 use Rattle.pending.proofs.Scans.{scan-after}
 use Rattle.card.specs.declared.state.Card.{Card}
 use Rattle.card.specs.State.{withPort, withPending}

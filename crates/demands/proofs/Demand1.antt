@@ -11,7 +11,7 @@ use Rattle.base.specs.Choice.{pick, either}
 use Rattle.base.specs.Order.{when, firstOf, saying}
 use Rattle.base.proofs.Tests.{pick-yes}
 use Rattle.base.proofs.Sets.{fitting-none}
-use Rattle.drive.specs.declared.plant.Plant.{Plant}
+use Rattle.drive.specs.declared.plant.Drive.{Drive}
 use Rattle.drive.specs.Events.{isFault, event, raised, ended}
 use Rattle.nfo_service.specs.Reply as NfoReply
 use Rattle.card.specs.Events.{happened, refused, told, faultRaised, causeEnded, din1Set, measuredSet, parityTold, ticked}
@@ -64,11 +64,11 @@ refuses false c d a e = (
 )
 
 -- a known fault
-tells : (n : ℕ) (p : Plant) (c : Card) → Refuses (not (isFault n)) c (told (event n p (c .plant)) c)
+tells : (n : ℕ) (d : Drive) (c : Card) → Refuses (not (isFault n)) c (told (event n d (c .plant .drive)) c)
 unfolding told happened
-tells n p c = refuses (not (isFault n)) c (happened p c .card) (told (event n p (c .plant)) c) (go (isFault n))
+tells n d c = refuses (not (isFault n)) c (happened d c .card) (told (event n d (c .plant .drive)) c) (go (isFault n))
   where
-    go : (t : Bool) → told (pick t (record { plant = p; known = true }) (record { plant = c .plant; known = false })) c ≡ pick (not t) (refused c) (record { card = happened p c .card; outcome = Done })
+    go : (t : Bool) → told (pick t (record { drive = d; known = true }) (record { drive = c .plant .drive; known = false })) c ≡ pick (not t) (refused c) (record { card = happened d c .card; outcome = Done })
     go true = refl
     go false = refl
 

@@ -7,7 +7,7 @@ use native.Mathlib.Omega.{arith}
 use borrow.Author.Tests.{le-ltb}
 use lib.ListN.{length, getD}
 use Rattle.nfo.proofs.Lawful.{nfo-lawful}
-use Rattle.modbus.specs.declared.answers.Answer as Units
+use Rattle.modbus.specs.declared.replies.Answer as Units
 use Rattle.rtu.specs.Rtu.{addressIn, unitIn}
 use Rattle.rtu.proofs.RoundTrip.{own-address}
 use Rattle.ascii.specs.Ascii as Text

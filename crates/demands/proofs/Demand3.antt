@@ -15,7 +15,7 @@ use Rattle.pending.specs.Held.{Sized}
 use Rattle.pending.specs.Scanning.{Follows}
 use Rattle.nfo.proofs.Lawful.{nfo-lawful, nfo-stream}
 use Rattle.nfo.proofs.Follows.{nfo-follows}
-use Rattle.nfo.proofs.Parsed as Parsed
+use Rattle.nfo.proofs.Alone as Alone
 use Rattle.ascii.proofs.Lawful.{ascii-lawful, ascii-stream}
 use Rattle.ascii_scan.proofs.Follows.{ascii-follows}
 use Rattle.ascii_scan.proofs.Parsed.{message-held}
@@ -76,7 +76,7 @@ nfo-streams =
       theory = nfo-stream;
       follows = nfo-follows;
       calls = nfo-calls;
-      takes = λ c q size w. rw (Parsed.message-held q w) (refl, refl);
+      takes = λ c q size w. rw (Alone.message-held q w) (refl, refl);
       same = λ c q r. (refl, refl);
       alone = λ c m. (refl, refl);
     }

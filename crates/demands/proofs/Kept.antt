@@ -17,6 +17,7 @@ use Rattle.base.proofs.Tests.{pick-both, both-out, either-out, either-false}
 use Rattle.table.specs.Table.{rows, lineAt, startWords}
 use Rattle.table.specs.Names.{MbAdr, Mode, Setpoint, MODE, SCMD, Inv-St-ack, SioErr}
 use Rattle.allowed.specs.Allowed.{twos, within, member, allows, allowedAt}
+use Rattle.drive.specs.declared.plant.Drive.{Drive}
 use Rattle.drive.specs.declared.plant.Plant.{Plant}
 use Rattle.drive.specs.declared.plant.Settings.{Settings}
 use Rattle.drive.specs.Plant as Plants
@@ -32,13 +33,13 @@ use Rattle.permit.specs.Permit.{permitOf}
 use Rattle.permit.specs.declared.Permit.{Permit}
 use Rattle.writing.specs.Write.{stored, applied, after, written}
 use Rattle.service.specs.Serving.{isNone, theRow, toldServed, wroteServed}
-use Rattle.service.specs.declared.Served.{Served}
+use Rattle.service.specs.Serving.{Served}
 use Rattle.table.specs.declared.labels.Row.{Row}
-use Rattle.nfo.specs.declared.message.Value.{Value}
-use Rattle.nfo.specs.declared.message.Message.{Message}
-use Rattle.nfo.specs.declared.message.Message.the-variants.{Enquiry, Select}
+use Rattle.nfo_parts.specs.declared.message.Value.{Value}
+use Rattle.nfo_parts.specs.declared.message.Message.{Message}
+use Rattle.nfo_parts.specs.declared.message.Message.the-variants.{Enquiry, Select}
 use Rattle.nfo_service.specs.Serve as Nfo
-use Rattle.modbus.specs.Words.{longAt}
+use Rattle.modbus_words.specs.Words.{longAt}
 use Rattle.modbus.specs.Request.{requestOf}
 use Rattle.modbus.specs.declared.requests.Request.{Request}
 use Rattle.modbus.specs.declared.requests.Request.the-variants.{Read, One, Many, Malformed, Unknown}
@@ -60,7 +61,7 @@ use Rattle.rtu.specs.Rtu.{frameHolds, addressIn, unitIn}
 use Rattle.ascii_port.specs.Receive.{asciiStream, asciiReceived}
 use Rattle.receive.specs.Receive.{received}
 use Rattle.master_reply.specs.Told.{Within}
-use Rattle.demands.specs.Kept.{Command, Allowed, Addressed, Kept}
+use Rattle.demands.specs.Kept.{Commanded, Command, Allowed, Addressed, Kept}
 
 -- ---- "MbAdr | 1..247": what the row allows
 narrow : (w : ℕ) (a b : Bool)
@@ -134,31 +135,31 @@ module _ (p : Plant) (keep : Allowed p) (row w : ℕ) where
   applied-keeps : allowed p row w ≡ true → Allowed (applied row w p)
   unfolding applied
   applied-keeps can =
-      pick-both Allowed (ltb row MODE) (λ _. (stored-keeps can, keep .1, keep .2))
+      pick-both Allowed (ltb row MODE) (λ _. (stored-keeps can, keep .1))
       (λ _. pick-both Allowed (eqb row MODE)
-      (λ e. pick-both Allowed (eqb (p .mode) w) (λ _. keep) (λ _. (keep .0, mode-one p w (sym (ap (λ (k : ℕ). allowed p k w) (eqb-true row MODE e)) ∙ can), inl refl)))
-      (λ _. pick-both Allowed (eqb row SCMD) (λ e. (keep .0, keep .1, scmd-one p w (sym (ap (λ (k : ℕ). allowed p k w) (eqb-true row SCMD e)) ∙ can))) (λ _. keep)))
+      (λ e. pick-both Allowed (eqb (p .drive .mode) w) (λ _. keep) (λ _. (keep .0, (mode-one p w (sym (ap (λ (k : ℕ). allowed p k w) (eqb-true row MODE e)) ∙ can), inl refl))))
+      (λ _. pick-both Allowed (eqb row SCMD) (λ e. (keep .0, (keep .1 .0, scmd-one p w (sym (ap (λ (k : ℕ). allowed p k w) (eqb-true row SCMD e)) ∙ can)))) (λ _. keep)))
 
   pub written-keeps : Allowed (written p row w .plant)
   unfolding written permitOf
   written-keeps =
       pick-both After (readOnly row) (λ _. keep)
       (λ _. pick-both After (not (allowed p row w)) (λ _. keep)
-      (λ can. pick-both After (flagStands p) (λ _. keep) (λ _. pick-both After (held p row) (λ _. keep)
-      (λ _. pick-both After (not (permitted p row w)) (λ _. keep) (λ _. applied-keeps (not-false (allowed p row w) can))))))
+      (λ can. pick-both After (flagStands (p .drive)) (λ _. keep) (λ _. pick-both After (held (p .drive) row) (λ _. keep)
+      (λ _. pick-both After (not (permitted (p .drive) row w)) (λ _. keep) (λ _. applied-keeps (not-false (allowed p row w) can))))))
     where
       After : Permit → Type 0
       After x = Allowed (after x p)
 
 -- ---- a read, and the broadcast stop
-told-keeps : (p : Plant) → Allowed p → (row sioerr : ℕ) → Allowed (told p row sioerr .plant)
+told-keeps : (p : Plant) → Allowed p → (row sioerr : ℕ) → Commanded (told p row sioerr .drive)
 unfolding told acknowledged without14
 told-keeps p keep row sioerr =
-    pick-both (λ (t : Told). Allowed (t .plant)) (eqb row Inv-St-ack) (λ _. keep) (λ _. pick-both (λ (t : Told). Allowed (t .plant)) (eqb row SioErr) (λ _. keep) (λ _. keep))
+    pick-both (λ (t : Told). Commanded (t .drive)) (eqb row Inv-St-ack) (λ _. keep .1) (λ _. pick-both (λ (t : Told). Commanded (t .drive)) (eqb row SioErr) (λ _. keep .1) (λ _. keep .1))
 
-stop-keeps : (p : Plant) → Allowed p → Allowed (stopped p)
+stop-keeps : (d : Drive) → Commanded d → Commanded (stopped d)
 unfolding stopped without14
-stop-keeps p keep = (keep .0, keep .1, inl refl)
+stop-keeps d keep = (keep .0, inl refl)
 
 -- ---- a message served, by either protocol
 module _ (p : Plant) (keep : Allowed p) (sioerr : ℕ) where
@@ -170,24 +171,24 @@ module _ (p : Plant) (keep : Allowed p) (sioerr : ℕ) where
   row-keeps adr row value =
       pick-both Serves (readOnly (row .0)) (λ _. keep)
       (λ _. pick-both Serves (Nfo.notHex value) (λ _. keep)
-      (λ _. pick-both Serves (Nfo.stops p adr (row .0) (Nfo.theWord value)) (λ _. stop-keeps p keep) (λ _. written-keeps p keep (row .0) (Nfo.theWord value))))
+      (λ _. pick-both Serves (Nfo.stops (p .drive) adr (row .0) (Nfo.theWord value)) (λ _. (keep .0, stop-keeps (p .drive) (keep .1))) (λ _. written-keeps p keep (row .0) (Nfo.theWord value))))
 
   nfo-keeps : (m : Message) → Serves (Nfo.served p sioerr m)
   unfolding Nfo.served Nfo.enquiryServed Nfo.selectServed toldServed
   nfo-keeps (Enquiry adr parameter) =
-      pick-both Serves (not (Nfo.toUs p adr)) (λ _. keep)
-      (λ _. pick-both Serves (isNone (Nfo.rowNamed parameter)) (λ _. keep) (λ _. told-keeps p keep (theRow (Nfo.rowNamed parameter) .0) sioerr))
+      pick-both Serves (not (Nfo.toUs (p .settings) adr)) (λ _. keep)
+      (λ _. pick-both Serves (isNone (Nfo.rowNamed parameter)) (λ _. keep) (λ _. (keep .0, told-keeps p keep (theRow (Nfo.rowNamed parameter) .0) sioerr)))
   nfo-keeps (Select adr parameter value) =
-      pick-both Serves (not (Nfo.reachesUs p adr)) (λ _. keep)
+      pick-both Serves (not (Nfo.reachesUs (p .settings) adr)) (λ _. keep)
       (λ _. pick-both Serves (isNone (Nfo.rowNamed parameter)) (λ _. keep) (λ _. row-keeps adr (theRow (Nfo.rowNamed parameter)) value))
 
   task-keeps : (row : Row) (q : Request) (u : List ℕ) → Serves (Modbus.done p sioerr (Modbus.taskAt row q u))
   unfolding Modbus.done toldServed wroteServed
-  task-keeps row (Read f r n) u = told-keeps p keep (row .0) sioerr
+  task-keeps row (Read f r n) u = (keep .0, told-keeps p keep (row .0) sioerr)
   task-keeps row (One r w) u = written-keeps p keep (row .0) w
   task-keeps row (Many r n s) u = written-keeps p keep (row .0) (longAt u (s .from))
-  task-keeps row (Malformed f) u = told-keeps p keep (row .0) sioerr
-  task-keeps row (Unknown f) u = told-keeps p keep (row .0) sioerr
+  task-keeps row (Malformed f) u = (keep .0, told-keeps p keep (row .0) sioerr)
+  task-keeps row (Unknown f) u = (keep .0, told-keeps p keep (row .0) sioerr)
 
   modbus-keeps : (st a : ℕ) (u : List ℕ) → Serves (Modbus.served p sioerr st a u)
   unfolding Modbus.served Modbus.taskOf Modbus.done
@@ -226,32 +227,33 @@ receive-keeps c bytes room keep =
     (λ _. stream-keeps nfoStream c keep (λ q. nfo-keeps (c .plant) (keep .0) (c .port .sioerr) _) bytes room))
 
 -- ---- the host's events
-told-event : (e : Event) (c : Card) → Allowed (e .plant) → Addressed c → Addressed (Events.told e c .card)
+told-event : (e : Event) (c : Card) → Commanded (e .drive) → Addressed c → Addressed (Events.told e c .card)
 unfolding Events.told Events.happened
-told-event e c p keep = pick-both (λ (a : After). Addressed (a .card)) (e .known) (λ _. (p, keep .1)) (λ _. keep)
+told-event e c d keep = pick-both (λ (a : After). Addressed (a .card)) (e .known) (λ _. ((keep .0 .0, d), keep .1)) (λ _. keep)
 
-raise-keeps : (n : ℕ) (p : Plant) → Allowed p → Allowed (raised n p .plant)
+raise-keeps : (n : ℕ) (d : Drive) → Commanded d → Commanded (raised n d .drive)
 unfolding raised flagRaised
-raise-keeps n p keep = pick-both (λ (e : Event). Allowed (e .plant)) (isFault n) (λ _. (keep .0, keep .1, inl refl)) (λ _. keep)
+raise-keeps n d keep = pick-both (λ (e : Event). Commanded (e .drive)) (isFault n) (λ _. (keep .0, inl refl)) (λ _. keep)
 
-end-keeps : (n : ℕ) (p : Plant) → Allowed p → Allowed (ended n p .plant)
+end-keeps : (n : ℕ) (d : Drive) → Commanded d → Commanded (ended n d .drive)
 unfolding ended
-end-keeps n p keep = pick-both (λ (e : Event). Allowed (e .plant)) (isFault n) (λ _. keep) (λ _. keep)
+end-keeps n d keep = pick-both (λ (e : Event). Commanded (e .drive)) (isFault n) (λ _. keep) (λ _. keep)
 
-active-keeps : (active : Bool) (p : Plant) → Allowed p → Allowed (withActive active p)
+active-keeps : (active : Bool) (d : Drive) → Commanded d → Commanded (withActive active d)
 unfolding withActive
-active-keeps true p keep = keep
-active-keeps false p keep = (keep .0, keep .1, inl refl)
+active-keeps true d keep = keep
+active-keeps false d keep = (keep .0, inl refl)
 
-measured-keeps : (m : Measured) (p : Plant) → Allowed p → Allowed (withMeasured m p)
+measured-keeps : (m : Measured) (d : Drive) → Commanded d → Commanded (withMeasured m d)
 unfolding withMeasured
-measured-keeps (Frq w) p keep = keep
-measured-keeps (Rms w) p keep = keep
-measured-keeps (Optime w) p keep = keep
+measured-keeps (Frq w) d keep = keep
+measured-keeps (Rms w) d keep = keep
+measured-keeps (Optime w) d keep = keep
 
 fault-keeps : (bit : ℕ) (c : Card) → Addressed c → Addressed (Events.portFaulted bit c)
 unfolding Events.portFaulted portFault flagRaised
-fault-keeps bit c keep = (pick-both Allowed (eqb (c .plant .mode) 3) (λ _. (keep .0 .0, keep .0 .1, inl refl)) (λ _. keep .0), keep .1)
+fault-keeps bit c keep =
+    ((keep .0 .0, pick-both Commanded (eqb (c .plant .drive .mode) 3) (λ _. (keep .0 .1 .0, inl refl)) (λ _. keep .0 .1)), keep .1)
 
 tick-keeps : (n : ℕ) (c : Card) → Addressed c → Addressed (Events.ticked n c .card)
 unfolding Events.ticked Events.counted
@@ -262,27 +264,27 @@ tick-keeps n c keep =
 
 started-keeps : (protocol : Protocols.Protocol) → Addressed (State.started protocol)
 unfolding State.started Plants.started startWords rows
-started-keeps protocol = (((omega arith, omega arith), (omega arith, omega arith), inl refl), (omega arith, omega arith))
+started-keeps protocol = (((omega arith, omega arith), ((omega arith, omega arith), inl refl)), (omega arith, omega arith))
 
 restarted-keeps : (c : Card) → Addressed c → Addressed (State.restarted c)
 unfolding State.restarted Plants.restarted
-restarted-keeps c keep = ((keep .0 .0, (omega arith, omega arith), inl refl), keep .0 .0)
+restarted-keeps c keep = ((keep .0 .0, ((omega arith, omega arith), inl refl)), keep .0 .0)
 
 din1-keeps : (active : Bool) (c : Card) → Addressed c → Addressed (Events.din1Set active c .card)
 unfolding Events.din1Set Events.happened
-din1-keeps active c keep = (active-keeps active (c .plant) (keep .0), keep .1)
+din1-keeps active c keep = ((keep .0 .0, active-keeps active (c .plant .drive) (keep .0 .1)), keep .1)
 
 measure-keeps : (m : Measured) (c : Card) → Addressed c → Addressed (Events.measuredSet m c .card)
 unfolding Events.measuredSet Events.happened
-measure-keeps m c keep = (measured-keeps m (c .plant) (keep .0), keep .1)
+measure-keeps m c keep = ((keep .0 .0, measured-keeps m (c .plant .drive) (keep .0 .1)), keep .1)
 
 raised-keeps : (n : ℕ) (c : Card) → Addressed c → Addressed (Events.faultRaised n c .card)
 unfolding Events.faultRaised
-raised-keeps n c keep = told-event (raised n (c .plant)) c (raise-keeps n (c .plant) (keep .0)) keep
+raised-keeps n c keep = told-event (raised n (c .plant .drive)) c (raise-keeps n (c .plant .drive) (keep .0 .1)) keep
 
 ended-keeps : (n : ℕ) (c : Card) → Addressed c → Addressed (Events.causeEnded n c .card)
 unfolding Events.causeEnded
-ended-keeps n c keep = told-event (ended n (c .plant)) c (end-keeps n (c .plant) (keep .0)) keep
+ended-keeps n c keep = told-event (ended n (c .plant .drive)) c (end-keeps n (c .plant .drive) (keep .0 .1)) keep
 
 parity-keeps : (c : Card) → Addressed c → Addressed (Events.parityTold c .card)
 unfolding Events.parityTold

@@ -17,16 +17,15 @@ use Rattle.answers.specs.declared.Refusal.{Refusal}
 use Rattle.answers.specs.declared.Refusal.the-variants as Refusals
 use Rattle.answers.specs.Answer.{refusalNumber, answerNumber}
 use Rattle.service.specs.Serving.{theRow, keeping, toldServed}
-use Rattle.service.specs.declared.Served.{Served}
+use Rattle.service.specs.Serving.{Served}
 use Rattle.service.proofs.Laws.{wrote-keeps}
 use Rattle.pending.specs.declared.Pending.{Pending}
-use Rattle.pending.specs.declared.Scan.{Scan}
 use Rattle.pending.specs.Held.{held}
-use Rattle.pending.specs.Scanning.{Feeding, scanFrom}
+use Rattle.pending.specs.Scanning.{Scan, Feeding, scanFrom}
 use Rattle.pending.proofs.Laws.{held-emptied}
-use Rattle.nfo.specs.Parts.{messageOf}
-use Rattle.nfo.specs.declared.message.Message.{Message}
-use Rattle.nfo.specs.declared.message.Message.the-variants.{Enquiry, Select}
+use Rattle.nfo_parts.specs.Parts.{messageOf}
+use Rattle.nfo_parts.specs.declared.message.Message.{Message}
+use Rattle.nfo_parts.specs.declared.message.Message.the-variants.{Enquiry, Select}
 use Rattle.nfo_service.specs.Serve as Nfo
 use Rattle.nfo_service.specs.Reply as NfoReply
 use Rattle.card.specs.State.{cardSum}
@@ -65,7 +64,7 @@ nfo-keeps p s (Select adr q v) =
     let row = theRow (Nfo.rowNamed q) in
     first-keeps p s (Nfo.nameLines p adr (Nfo.rowNamed q)) (Nfo.rowSelected p s adr row v)
     (first-keeps p s (Nfo.rowLines row v) _
-    (pick-both (Keeps p s) (Nfo.stops p adr (row .0) (Nfo.theWord v)) (λ _ n. absurd (n refl)) (λ _. wrote-keeps p s (row .0) (Nfo.theWord v))))
+    (pick-both (Keeps p s) (Nfo.stops (p .drive) adr (row .0) (Nfo.theWord v)) (λ _ n. absurd (n refl)) (λ _. wrote-keeps p s (row .0) (Nfo.theWord v))))
 
 -- ---- outcome 1 has no reply
 nfo-silent : (m : Message) (x : Answer) → x ≡ NotOurs → NfoReply.replied m x ≡ []

@@ -20,19 +20,19 @@ use Rattle.permit.specs.Refusals.{readOnly, readLine, writeLines}
 use Rattle.permit.specs.Permit.{permitOf}
 use Rattle.writing.specs.Write.{written}
 use Rattle.service.specs.Serving.{isNone, theRow, keeping, permitted, toldServed, wroteServed}
-use Rattle.service.specs.declared.Served.{Served}
-use Rattle.pending.specs.declared.Scan.{Scan}
+use Rattle.service.specs.Serving.{Served}
 use Rattle.pending.specs.Held.{held}
-use Rattle.nfo.specs.declared.message.Message.{Message}
-use Rattle.nfo.specs.declared.message.Message.the-variants.{Enquiry, Select}
-use Rattle.nfo.specs.declared.message.Value.{Value}
-use Rattle.nfo.specs.Parts.{messageOf}
+use Rattle.pending.specs.Scanning.{Scan}
+use Rattle.nfo_parts.specs.declared.message.Message.{Message}
+use Rattle.nfo_parts.specs.declared.message.Message.the-variants.{Enquiry, Select}
+use Rattle.nfo_parts.specs.declared.message.Value.{Value}
+use Rattle.nfo_parts.specs.Parts.{messageOf}
 use Rattle.nfo_service.specs.Serve as Nfo
 use Rattle.card.specs.Outcome.{numberOf}
 use Rattle.card.specs.declared.state.Card.{Card}
 use Rattle.card.specs.declared.outcome.Outcome.{Outcome}
 use Rattle.card.specs.declared.outcome.Outcome.the-variants as Outcomes
-use Rattle.modbus.specs.Words.{longAt}
+use Rattle.modbus_words.specs.Words.{longAt}
 use Rattle.modbus.specs.Request.{requestOf}
 use Rattle.modbus.specs.declared.requests.Request.{Request}
 use Rattle.modbus.specs.declared.requests.Request.the-variants.{Read, One, Many, Malformed, Unknown}
@@ -106,11 +106,11 @@ again false h false a b ls = refl
 module _ (p : Plant) (s adr : ℕ) where
   row-number : (row : Row) (v : Value)
       → servedNumber (Nfo.rowSelected p s adr row v)
-      ≡ firstOf (saying answerNumber (Nfo.rowLines row v ++ pick (Nfo.stops p adr (row .0) (Nfo.theWord v)) [] (saying Refused (writeLines p (row .0) (Nfo.theWord v))))) 0
+      ≡ firstOf (saying answerNumber (Nfo.rowLines row v ++ pick (Nfo.stops (p .drive) adr (row .0) (Nfo.theWord v)) [] (saying Refused (writeLines p (row .0) (Nfo.theWord v))))) 0
   unfolding Nfo.rowSelected
   row-number row v =
       let w : ℕ = Nfo.theWord v in
-      let t : Bool = Nfo.stops p adr (row .0) w in
+      let t : Bool = Nfo.stops (p .drive) adr (row .0) w in
       first-by answerNumber servedNumber (keeping p s) (λ a. refl) (Nfo.rowLines row v) (pick t (Nfo.stopServed p row w) (wroteServed p s (row .0) w))
       ∙ ap (firstOf (saying answerNumber (Nfo.rowLines row v))) (stop t ∙ ap (pick t 0) (wrote-number p s (row .0) w))
       ∙ again (readOnly (row .0)) (Nfo.notHex v) t 3 8 (saying Refused (writeLines p (row .0) w))

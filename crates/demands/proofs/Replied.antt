@@ -19,7 +19,7 @@ use Rattle.answers.specs.declared.Refusal.the-variants as Refusals
 use Rattle.modbus.specs.Request.{requestOf}
 use Rattle.modbus.specs.declared.requests.Request.{Request}
 use Rattle.modbus.specs.declared.requests.Request.the-variants.{Read, One, Many, Malformed, Unknown}
-use Rattle.modbus.specs.declared.answers.Answer as Units
+use Rattle.modbus.specs.declared.replies.Answer as Units
 use Rattle.modbus_service.specs.Serve.{toAll, served}
 use Rattle.modbus_service.specs.Reply.{exceptionOf, registersTold, headOf, answered, repliedBy, replied, exchanged}
 use Rattle.modbus_service.specs.declared.Reply.{Reply}

@@ -16,9 +16,9 @@ use Rattle.answers.specs.declared.Answer.{Answer}
 use Rattle.answers.specs.declared.Answer.the-variants as Answers
 use Rattle.nfo.specs.Shape.{fits, whole}
 use Rattle.nfo.specs.Message.{ADR, enquiry, select, formed}
-use Rattle.nfo.specs.Parts.{wordIn, valueAt, numberIn, parameterAt, messageOf}
-use Rattle.nfo.specs.declared.message.Message.{Message}
-use Rattle.nfo.specs.declared.message.Parameter.{Parameter}
+use Rattle.nfo_parts.specs.Parts.{wordIn, valueAt, numberIn, parameterAt, messageOf}
+use Rattle.nfo_parts.specs.declared.message.Message.{Message}
+use Rattle.nfo_parts.specs.declared.message.Parameter.{Parameter}
 use Rattle.nfo.proofs.Shape.{whole-at}
 use Rattle.nfo.proofs.Lawful.{formed-shape}
 use Rattle.nfo_service.specs.Reply.{adrIn, parameterIn, numberOf, repliedBy, replied}

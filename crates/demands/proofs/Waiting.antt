@@ -17,9 +17,8 @@ use Rattle.stream.specs.Scanned.{Seen, messagesOf, scanned}
 use Rattle.stream.specs.Theorem.{StreamTheorem}
 use Rattle.answers.specs.declared.Answer.{Answer}
 use Rattle.pending.specs.declared.Pending.{Pending}
-use Rattle.pending.specs.declared.Scan.{Scan}
 use Rattle.pending.specs.Held.{held, Sized}
-use Rattle.pending.specs.Scanning.{Feeding, scanFrom, Follows}
+use Rattle.pending.specs.Scanning.{Scan, Feeding, scanFrom, Follows}
 use Rattle.pending.proofs.Scans.{scan-follows}
 use Rattle.nfo.proofs.Lawful.{nfo-lawful, nfo-stream}
 use Rattle.nfo.proofs.Follows.{nfo-follows}

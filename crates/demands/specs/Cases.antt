@@ -39,7 +39,7 @@ saying NothingTaken reply later = later
 
 -- so many calls of `receive`, with a reply buffer of 19 bytes, each on the rest that the one before left
 abbrev pub heard : ℕ → Card → List ℕ → Told
-heard zero c bytes = telling [] (c .plant .flags)
+heard zero c bytes = telling [] (c .plant .drive .flags)
 heard (suc n) c bytes = let r : Received = received c bytes 19 in saying (r .outcome) (r .reply) (heard n (r .card) (drop (r .used) bytes))
 
 -- the ENQUIRY of case 2, without the EOT that it begins with, and with it; its reply

@@ -17,8 +17,8 @@ use Rattle.drive.specs.Events.{isFault}
 use Rattle.answers.specs.declared.Answer.the-variants as Answers
 use Rattle.answers.specs.declared.Refusal.{Refusal}
 use Rattle.pending.specs.Held.{held, Sized}
-use Rattle.nfo.specs.declared.message.Message.{Message}
-use Rattle.nfo.specs.Replies.{replyOf, ackOf, nakOf}
+use Rattle.nfo_parts.specs.declared.message.Message.{Message}
+use Rattle.nfo_parts.specs.Replies.{replyOf, ackOf, nakOf}
 use Rattle.nfo_service.specs.Serve as Nfo
 use Rattle.nfo_service.specs.Reply as NfoReply
 use Rattle.card.specs.State.{cardSum}
@@ -28,7 +28,7 @@ use Rattle.card.specs.declared.state.Card.{Card}
 use Rattle.card.specs.declared.events.After.{After}
 use Rattle.card.specs.declared.outcome.Outcome.the-variants.{Done, NoSuchEvent}
 use Rattle.modbus.specs.Request.{requestOf}
-use Rattle.modbus.specs.declared.answers.Answer.the-variants.{Exception}
+use Rattle.modbus.specs.declared.replies.Answer.the-variants.{Exception}
 use Rattle.rtu.specs.Rtu.{rtuOf}
 use Rattle.ascii.specs.Ascii.{asciiOf}
 use Rattle.master.specs.Sent.{sentNumber, refusals, sentOf, bytesSent}

@@ -12,15 +12,15 @@ use Rattle.stream.specs.Reading.{Yield, Reads}
 use Rattle.answers.specs.declared.Answer.{Answer}
 use Rattle.answers.specs.declared.Answer.the-variants as Answers
 use Rattle.nfo.specs.Message.{formed}
-use Rattle.nfo.specs.Parts.{messageOf}
-use Rattle.nfo.specs.declared.message.Message.{Message}
-use Rattle.nfo.specs.declared.message.Message.the-variants.{Enquiry, Select}
-use Rattle.nfo.specs.declared.message.Parameter.the-variants.{Number}
-use Rattle.nfo.specs.declared.message.Value.the-variants.{Word}
+use Rattle.nfo_parts.specs.Parts.{messageOf}
+use Rattle.nfo_parts.specs.declared.message.Message.{Message}
+use Rattle.nfo_parts.specs.declared.message.Message.the-variants.{Enquiry, Select}
+use Rattle.nfo_parts.specs.declared.message.Parameter.the-variants.{Number}
+use Rattle.nfo_parts.specs.declared.message.Value.the-variants.{Word}
 use Rattle.nfo_service.specs.Reply.{adrIn, parameterIn, numberOf, replied}
 use Rattle.modbus.specs.Request.{requestOf}
 use Rattle.modbus.specs.Answer.{unitOf}
-use Rattle.modbus.specs.declared.answers.Answer as Units
+use Rattle.modbus.specs.declared.replies.Answer as Units
 use Rattle.rtu.specs.Rtu.{addressIn, unitIn, rtuOf, registerData}
 use Rattle.ascii.specs.Ascii.{bytesIn, asciiOf}
 use Rattle.ascii_scan.specs.Parts.{unitAmong}

@@ -9,7 +9,7 @@ use Rattle.stream.specs.Scanned.{messagesOf}
 use Rattle.stream.specs.Theorem.{StreamTheorem}
 use Rattle.pending.specs.Held.{empty, held, Sized}
 use Rattle.nfo.specs.Message.{nfo}
-use Rattle.nfo.specs.Parts.{messageOf}
+use Rattle.nfo_parts.specs.Parts.{messageOf}
 use Rattle.nfo_service.specs.Reply.{replied}
 use Rattle.card.specs.declared.state.Card.{Card}
 use Rattle.card.specs.State.{withPort, withPending}

@@ -7,6 +7,7 @@ use mathlib.Core.List.{List}
 use Prim.Native.Nat.{ℕ}
 use lib.ListN.{getD}
 use Rattle.table.specs.Names.{MbAdr}
+use Rattle.drive.specs.declared.plant.Drive.{Drive}
 use Rattle.drive.specs.declared.plant.Plant.{Plant}
 use Rattle.drive.specs.declared.events.Measured.{Measured}
 use Rattle.card.specs.State.{started, restarted}
@@ -20,8 +21,11 @@ use Rattle.master_reply.specs.Told.{Within}
 abbrev pub Command : ℕ → Type 0
 Command w = (w ≡ 0) ⊎ ((w ≡ 129) ⊎ (w ≡ 257))
 
+abbrev pub Commanded : Drive → Type 0
+Commanded d = Within 1 3 (d .mode) × Command (d .scmd)
+
 abbrev pub Allowed : Plant → Type 0
-Allowed p = Within 1 247 (getD (p .settings .words) MbAdr 0) × Within 1 3 (p .mode) × Command (p .scmd)
+Allowed p = Within 1 247 (getD (p .settings .words) MbAdr 0) × Commanded (p .drive)
 
 -- "Addresses 1 to 247; ours is what MbAdr held at the last start or restart"
 abbrev pub Addressed : Card → Type 0

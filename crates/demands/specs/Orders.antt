@@ -18,18 +18,17 @@ use Rattle.answers.specs.declared.Answer.the-variants.{Refused}
 use Rattle.answers.specs.Answer.{answerNumber}
 use Rattle.permit.specs.Refusals.{readLine, writeLines}
 use Rattle.service.specs.Serving.{theRow}
-use Rattle.pending.specs.declared.Scan.{Scan}
 use Rattle.pending.specs.Held.{held}
-use Rattle.pending.specs.Scanning.{Feeding, scanFrom}
-use Rattle.nfo.specs.Parts.{messageOf}
-use Rattle.nfo.specs.declared.message.Message.{Message}
-use Rattle.nfo.specs.declared.message.Message.the-variants.{Enquiry, Select}
-use Rattle.nfo.specs.declared.message.Value.{Value}
+use Rattle.pending.specs.Scanning.{Scan, Feeding, scanFrom}
+use Rattle.nfo_parts.specs.Parts.{messageOf}
+use Rattle.nfo_parts.specs.declared.message.Message.{Message}
+use Rattle.nfo_parts.specs.declared.message.Message.the-variants.{Enquiry, Select}
+use Rattle.nfo_parts.specs.declared.message.Value.{Value}
 use Rattle.nfo_service.specs.Serve as Nfo
 use Rattle.card.specs.declared.state.Card.{Card}
 use Rattle.card.specs.declared.outcome.Outcome.{Outcome}
 use Rattle.card.specs.declared.outcome.Outcome.the-variants.{Served, ShortBuffer, BadFrame, NothingTaken}
-use Rattle.modbus.specs.Words.{longAt}
+use Rattle.modbus_words.specs.Words.{longAt}
 use Rattle.modbus.specs.Request.{requestOf}
 use Rattle.modbus.specs.declared.requests.Request.{Request}
 use Rattle.modbus.specs.declared.requests.Request.the-variants.{Read, One, Many, Malformed, Unknown}
@@ -52,9 +51,9 @@ abbrev pub selectOrder : Plant → ℕ → Found → Value → List (Line Answer
 selectOrder p adr found value =
     Nfo.nameLines p adr found
     ++ (Nfo.rowLines (theRow found) value
-    ++ pick (Nfo.stops p adr (theRow found .0) (Nfo.theWord value)) [] (saying Refused (writeLines p (theRow found .0) (Nfo.theWord value))))
+    ++ pick (Nfo.stops (p .drive) adr (theRow found .0) (Nfo.theWord value)) [] (saying Refused (writeLines p (theRow found .0) (Nfo.theWord value))))
 
-pub select-order : (p : Plant) (adr : ℕ) (found : Found) (value : Value) → Nfo.stops p adr (theRow found .0) (Nfo.theWord value) ≡ false
+pub select-order : (p : Plant) (adr : ℕ) (found : Found) (value : Value) → Nfo.stops (p .drive) adr (theRow found .0) (Nfo.theWord value) ≡ false
     → numbers answerNumber (selectOrder p adr found value) ≡ 1 ∷ 2 ∷ 3 ∷ 8 ∷ 4 ∷ 5 ∷ 6 ∷ 7 ∷ []
 select-order p adr found value other = rw other
 

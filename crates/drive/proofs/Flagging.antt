@@ -7,7 +7,7 @@ use lib.Bits.{bitOr, bitAnd}
 use lib.Dec.{eqb}
 use borrow.Author.Tests.{eq-eqb, eqb-true}
 use Rattle.base.specs.Choice.{both, either}
-use Rattle.drive.specs.declared.plant.Plant.{Plant}
+use Rattle.drive.specs.declared.plant.Drive.{Drive}
 use Rattle.drive.specs.Flags.{flagged, only, allBut}
 use Rattle.drive.specs.Faults.{flagRaised, acknowledged, without14, only14}
 use Rattle.drive.specs.Events.{isFault, raised, ended, portFault}
@@ -22,41 +22,41 @@ put-in mask n k g h = masks .joined k mask (only n) ∙ ap (either (flagged k ma
 taken-out : (mask n k : ℕ) → n < 32 → k < 32 → flagged k (bitAnd mask (allBut n)) ≡ both (flagged k mask) (not (eqb k n))
 taken-out mask n k g h = masks .common k mask (allBut n) ∙ ap (both (flagged k mask)) (masks .others n k g h)
 
-raised-flags : (p : Plant) (n k : ℕ) → isFault n ≡ true → k < 32 → flagged k (raised n p .plant .flags) ≡ either (flagged k (p .flags)) (eqb k n)
+raised-flags : (d : Drive) (n k : ℕ) → isFault n ≡ true → k < 32 → flagged k (raised n d .drive .flags) ≡ either (flagged k (d .flags)) (eqb k n)
 unfolding raised flagRaised
-raised-flags p n k e h = simp e (put-in (p .flags) n k (fault-small n e) h)
+raised-flags d n k e h = simp e (put-in (d .flags) n k (fault-small n e) h)
 
-raised-causes : (p : Plant) (n k : ℕ) → isFault n ≡ true → k < 32 → flagged k (raised n p .plant .causes) ≡ either (flagged k (p .causes)) (eqb k n)
+raised-causes : (d : Drive) (n k : ℕ) → isFault n ≡ true → k < 32 → flagged k (raised n d .drive .causes) ≡ either (flagged k (d .causes)) (eqb k n)
 unfolding raised flagRaised
-raised-causes p n k e h = simp e (put-in (p .causes) n k (fault-small n e) h)
+raised-causes d n k e h = simp e (put-in (d .causes) n k (fault-small n e) h)
 
-ended-causes : (p : Plant) (n k : ℕ) → isFault n ≡ true → k < 32 → flagged k (ended n p .plant .causes) ≡ both (flagged k (p .causes)) (not (eqb k n))
+ended-causes : (d : Drive) (n k : ℕ) → isFault n ≡ true → k < 32 → flagged k (ended n d .drive .causes) ≡ both (flagged k (d .causes)) (not (eqb k n))
 unfolding ended
-ended-causes p n k e h = simp e (taken-out (p .causes) n k (fault-small n e) h)
+ended-causes d n k e h = simp e (taken-out (d .causes) n k (fault-small n e) h)
 
-ended-flags : (p : Plant) (n : ℕ) → ended n p .plant .flags ≡ p .flags
+ended-flags : (d : Drive) (n : ℕ) → ended n d .drive .flags ≡ d .flags
 unfolding ended
-ended-flags p n = go (isFault n) refl
+ended-flags d n = go (isFault n) refl
   where
-    go : (t : Bool) → isFault n ≡ t → ended n p .plant .flags ≡ p .flags
+    go : (t : Bool) → isFault n ≡ t → ended n d .drive .flags ≡ d .flags
     go true e = simp e
     go false e = simp e
 
-acknowledged-flags : (p : Plant) (k : ℕ) → k < 32 → flagged k (acknowledged p .flags) ≡ both (flagged k (p .flags)) (either (flagged k (p .causes)) (eqb k 14))
+acknowledged-flags : (d : Drive) (k : ℕ) → k < 32 → flagged k (acknowledged d .flags) ≡ both (flagged k (d .flags)) (either (flagged k (d .causes)) (eqb k 14))
 unfolding acknowledged
-acknowledged-flags p k h = masks .common k (p .flags) (bitOr (p .causes) (only 14)) ∙ ap (both (flagged k (p .flags))) (put-in (p .causes) 14 k (omega arith) h)
+acknowledged-flags d k h = masks .common k (d .flags) (bitOr (d .causes) (only 14)) ∙ ap (both (flagged k (d .flags))) (put-in (d .causes) 14 k (omega arith) h)
 
-port-flags : (p : Plant) (k : ℕ) → p .mode ≡ 3 → k < 32 → flagged k (portFault p .flags) ≡ either (flagged k (p .flags)) (eqb k 14)
+port-flags : (d : Drive) (k : ℕ) → d .mode ≡ 3 → k < 32 → flagged k (portFault d .flags) ≡ either (flagged k (d .flags)) (eqb k 14)
 unfolding portFault flagRaised
-port-flags p k m h = simp (eq-eqb _ _ m) (put-in (p .flags) 14 k (omega arith) h)
+port-flags d k m h = simp (eq-eqb _ _ m) (put-in (d .flags) 14 k (omega arith) h)
 
-without14-flags : (p : Plant) (k : ℕ) → k < 32 → flagged k (without14 p .flags) ≡ both (flagged k (p .flags)) (not (eqb k 14))
+without14-flags : (d : Drive) (k : ℕ) → k < 32 → flagged k (without14 d .flags) ≡ both (flagged k (d .flags)) (not (eqb k 14))
 unfolding without14
-without14-flags p k h = taken-out (p .flags) 14 k (omega arith) h
+without14-flags d k h = taken-out (d .flags) 14 k (omega arith) h
 
-only14-flags : (p : Plant) (k : ℕ) → only14 p ≡ true → k < 32 → flagged k (p .flags) ≡ eqb k 14
+only14-flags : (d : Drive) (k : ℕ) → only14 d ≡ true → k < 32 → flagged k (d .flags) ≡ eqb k 14
 unfolding only14
-only14-flags p k e h = ap (flagged k) (eqb-true _ _ e) ∙ masks .alone 14 k (omega arith) h
+only14-flags d k e h = ap (flagged k) (eqb-true _ _ e) ∙ masks .alone 14 k (omega arith) h
 
 pub flagging : Flagging
 flagging =

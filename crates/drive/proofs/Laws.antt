@@ -1,4 +1,4 @@
--- The rules of the plant, case by case: each law's premises are what the code's tests and its callees showed. Assumes nothing.
+-- The rules of the drive, case by case: each law's premises are what the code's tests and its callees showed. Assumes nothing.
 use mathlib.Core.Path.{_≡_, refl, sym, ap, _∙_}
 use mathlib.Core.Bool.{Bool, true, false, not}
 use mathlib.Core.Logic.{⊎-elim}
@@ -12,7 +12,7 @@ use borrow.Author.Tests.{ne-eqb, le-leb, lt-leb, leb-true}
 use Rattle.base.specs.Choice.{both, either}
 use Rattle.base.proofs.Tests.{both-out, either-out, either-right}
 use Rattle.drive.specs.declared.events.Measured.{Measured}
-use Rattle.drive.specs.declared.plant.Plant.{Plant}
+use Rattle.drive.specs.declared.plant.Drive.{Drive}
 use Rattle.drive.specs.Plant.{withCauses}
 use Rattle.drive.specs.Flags.{only}
 use Rattle.drive.specs.Faults.{active, flagStands, runs, flagRaised}
@@ -23,21 +23,21 @@ twice : (t : Bool) → t ≡ either (not (not t)) false
 twice true = refl
 twice false = refl
 
-pub runs-auto : (p : Plant) → p .mode ≡ 2 → (p .din1 ≡ 0 → ⊥) → eqb (p .flags) 0 ≡ runs p
+pub runs-auto : (d : Drive) → d .mode ≡ 2 → (d .din1 ≡ 0 → ⊥) → eqb (d .flags) 0 ≡ runs d
 unfolding runs active flagStands
-runs-auto p m d = simp (m, ne-eqb _ _ d) (twice (eqb (p .flags) 0))
+runs-auto d m a = simp (m, ne-eqb _ _ a) (twice (eqb (d .flags) 0))
 
-pub runs-inactive : (p : Plant) → p .mode ≡ 2 → p .din1 ≡ 0 → false ≡ runs p
+pub runs-inactive : (d : Drive) → d .mode ≡ 2 → d .din1 ≡ 0 → false ≡ runs d
 unfolding runs active
-runs-inactive p m d = simp (m, d)
+runs-inactive d m a = simp (m, a)
 
-pub runs-bus : (p : Plant) → p .mode ≡ 3 → not (eqb (p .scmd) 0) ≡ runs p
+pub runs-bus : (d : Drive) → d .mode ≡ 3 → not (eqb (d .scmd) 0) ≡ runs d
 unfolding runs
-runs-bus p m = simp m
+runs-bus d m = simp m
 
-pub runs-not : (p : Plant) → (p .mode ≡ 2 → ⊥) → (p .mode ≡ 3 → ⊥) → false ≡ runs p
+pub runs-not : (d : Drive) → (d .mode ≡ 2 → ⊥) → (d .mode ≡ 3 → ⊥) → false ≡ runs d
 unfolding runs
-runs-not p a b = simp (ne-eqb _ _ a, ne-eqb _ _ b)
+runs-not d a b = simp (ne-eqb _ _ a, ne-eqb _ _ b)
 
 -- ---- faults
 -- 1 << n
@@ -53,25 +53,25 @@ fault-small n e =
     (either-out (both (leb 1 n) (leb n 13)) (both (leb 16 n) (leb n 23)) e)
 
 pub fault-shift : (n : ℕ) (b : Bool) → b ≡ isFault n → b ≡ true → n < 32
-fault-shift n b d e = fault-small n (sym d ∙ e)
+fault-shift n b h e = fault-small n (sym h ∙ e)
 
-pub raised-known : (p : Plant) (n : ℕ) (b : Bool) → b ≡ isFault n → b ≡ true
-    → record { plant = withCauses (bitOr (p .causes) ((1 * 2 ^ n) % 4294967296)) (flagRaised ((1 * 2 ^ n) % 4294967296) p); known = true } ≡ raised n p
+pub raised-known : (d : Drive) (n : ℕ) (b : Bool) → b ≡ isFault n → b ≡ true
+    → record { drive = withCauses (bitOr (d .causes) ((1 * 2 ^ n) % 4294967296)) (flagRaised ((1 * 2 ^ n) % 4294967296) d); known = true } ≡ raised n d
 unfolding raised
-raised-known p n b d e = simp (bit-is n (fault-shift n b d e), sym d ∙ e)
+raised-known d n b h e = simp (bit-is n (fault-shift n b h e), sym h ∙ e)
 
-pub raised-unknown : (p : Plant) (n : ℕ) (b : Bool) → b ≡ isFault n → b ≡ false → record { plant = p; known = false } ≡ raised n p
+pub raised-unknown : (d : Drive) (n : ℕ) (b : Bool) → b ≡ isFault n → b ≡ false → record { drive = d; known = false } ≡ raised n d
 unfolding raised
-raised-unknown p n b d e = simp (sym d ∙ e)
+raised-unknown d n b h e = simp (sym h ∙ e)
 
-pub ended-known : (p : Plant) (n : ℕ) (b : Bool) → b ≡ isFault n → b ≡ true
-    → record { plant = withCauses (bitAnd (p .causes) (4294967295 - (1 * 2 ^ n) % 4294967296)) p; known = true } ≡ ended n p
+pub ended-known : (d : Drive) (n : ℕ) (b : Bool) → b ≡ isFault n → b ≡ true
+    → record { drive = withCauses (bitAnd (d .causes) (4294967295 - (1 * 2 ^ n) % 4294967296)) d; known = true } ≡ ended n d
 unfolding ended
-ended-known p n b d e = simp (bit-is n (fault-shift n b d e), sym d ∙ e)
+ended-known d n b h e = simp (bit-is n (fault-shift n b h e), sym h ∙ e)
 
-pub ended-unknown : (p : Plant) (n : ℕ) (b : Bool) → b ≡ isFault n → b ≡ false → record { plant = p; known = false } ≡ ended n p
+pub ended-unknown : (d : Drive) (n : ℕ) (b : Bool) → b ≡ isFault n → b ≡ false → record { drive = d; known = false } ≡ ended n d
 unfolding ended
-ended-unknown p n b d e = simp (sym d ∙ e)
+ended-unknown d n b h e = simp (sym h ∙ e)
 
 pub fault-low : (n : ℕ) → 1 ≤ n → n < 14 → true ≡ isFault n
 unfolding isFault
@@ -94,5 +94,5 @@ unfolding isFault
 fault-past n a = simp (le-leb 1 n (omega arith), lt-leb n 13 (omega arith), le-leb 16 n (omega arith), lt-leb n 23 (omega arith))
 
 -- ---- an arm of a `match` on what is measured
-pub measured-at : (p r : Plant) (measured k : Measured) → measured ≡ k → r ≡ withMeasured k p → r ≡ withMeasured measured p
-measured-at p r measured k h q = q ∙ ap (λ (m : Measured). withMeasured m p) (sym h)
+pub measured-at : (d r : Drive) (measured k : Measured) → measured ≡ k → r ≡ withMeasured k d → r ≡ withMeasured measured d
+measured-at d r measured k h q = q ∙ ap (λ (m : Measured). withMeasured m d) (sym h)

@@ -1,12 +1,12 @@
-// Host events: what each makes of the plant.
+// Host events: what each makes of the drive.
 use crate::faults::FLAG_14;
-use crate::plant::Plant;
+use crate::plant::Drive;
 ghost use mathlib.Core.Path.{_≡_};
 ghost use Rattle.drive.specs.Events.{isFault, raised, ended, portFault, withActive, withMeasured};
 
-// The plant after an event that names a fault, and whether there is a fault of that number. Where there is none, nothing changes.
+// The drive after an event that names a fault, and whether there is a fault of that number. Where there is none, nothing changes.
 pub struct Event {
-    pub plant: Plant,
+    pub drive: Drive,
     pub known: bool,
 }
 
@@ -28,7 +28,7 @@ fn is_fault(n: u32) -> bool
     }
 }
 
-impl Plant {
+impl Drive {
     // Raises fault n: its cause stands, its flag is raised, and the drive stops.
     pub fn raise_fault(mut self, n: u32) -> Event
         ensures { λ r. ⌜ r ≡ raised n self ⌝ }
@@ -39,12 +39,12 @@ impl Plant {
             self.flags |= mask;
             self.scmd = 0;
             return Event {
-                plant: self,
+                drive: self,
                 known: true,
             };
         }
         Event {
-            plant: self,
+            drive: self,
             known: false,
         }
     }
@@ -57,18 +57,18 @@ impl Plant {
             let mask = 1u32 << n;
             self.causes &= !mask;
             return Event {
-                plant: self,
+                drive: self,
                 known: true,
             };
         }
         Event {
-            plant: self,
+            drive: self,
             known: false,
         }
     }
 
-    // What a time-out or a parity fault of a port does to the plant: at MODE 3 it raises flag 14.
-    pub fn port_fault(mut self) -> Plant
+    // What a time-out or a parity fault of a port does to the drive: at MODE 3 it raises flag 14.
+    pub fn port_fault(mut self) -> Drive
         ensures { λ r. ⌜ r ≡ portFault self ⌝ }
     {
         if self.mode == 3 {
@@ -80,7 +80,7 @@ impl Plant {
     }
 
     // DIN1 becomes active, or inactive, which stops the drive.
-    pub fn set_din1(mut self, active: bool) -> Plant
+    pub fn set_din1(mut self, active: bool) -> Drive
         ensures { λ r. ⌜ r ≡ withActive active self ⌝ }
     {
         if active {
@@ -93,7 +93,7 @@ impl Plant {
     }
 
     // A number is measured anew.
-    pub fn measure(mut self, measured: Measured) -> Plant
+    pub fn measure(mut self, measured: Measured) -> Drive
         ensures { λ r. ⌜ r ≡ withMeasured measured self ⌝ }
     {
         match measured {

@@ -1,12 +1,12 @@
 // What runs, and flag 14.
-use crate::plant::Plant;
+use crate::plant::Drive;
 ghost use mathlib.Core.Path.{_≡_};
 ghost use Rattle.drive.specs.Faults.{runs, only14, stopped};
 
 // The mask of flag 14, which a port's time-out or parity fault raises.
 pub const FLAG_14: u32 = 0x4000;
 
-impl Plant {
+impl Drive {
     // Whether the drive runs: at MODE 2 by DIN1 while no flag stands, at MODE 3 by SCMD.
     pub fn running(self) -> bool
         ensures { λ r. ⌜ r ≡ runs self ⌝ }
@@ -30,8 +30,8 @@ impl Plant {
         self.flags == FLAG_14
     }
 
-    // The plant after the broadcast stop: flag 14 cleared, SCMD 0.
-    pub fn stopped(mut self) -> Plant
+    // The drive after the broadcast stop: flag 14 cleared, SCMD 0.
+    pub fn stopped(mut self) -> Drive
         ensures { λ r. ⌜ r ≡ stopped self ⌝ }
     {
         self.flags &= !FLAG_14;

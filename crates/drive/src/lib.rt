@@ -1,4 +1,4 @@
-// The plant: the stored settings and the drive state, by value, with the rules of document 01 for host events, the fault flags and what runs.
+// The plant: the stored settings and the drive state, with the rules of document 01 for host events, the fault flags and what runs.
 // It knows nothing of rows on the line, messages or ports: reading and writing a row are crates of their own.
 mod events;
 mod faults;
@@ -7,5 +7,6 @@ mod plant;
 pub use events::Event;
 pub use events::Measured;
 pub use faults::FLAG_14;
+pub use plant::Drive;
 pub use plant::Plant;
 pub use plant::Settings;

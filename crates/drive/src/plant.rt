@@ -3,14 +3,15 @@ ghost use mathlib.Core.Path.{_≡_};
 ghost use Rattle.drive.specs.Plant.{started, restarted};
 
 // Rows 301 to 322: each row's word, two's complement, at its line in the table.
+#[repr(C)]
 pub struct Settings {
     pub words: [u32; 22],
 }
 
-// Every bit pattern is a plant. `din1` is 0 where DIN1 is inactive; bit n of `causes` and `flags` belongs to fault n; `frq`, `rms` and `optime` are FrqAct,
-// I-rms and OpTime.
-pub struct Plant {
-    pub settings: Settings,
+// The drive state besides the settings. `din1` is 0 where DIN1 is inactive; bit n of `causes` and `flags` belongs to fault n; `frq`, `rms` and `optime` are
+// FrqAct, I-rms and OpTime.
+#[repr(C)]
+pub struct Drive {
     pub mode: u32,
     pub scmd: u32,
     pub din1: u32,
@@ -19,6 +20,13 @@ pub struct Plant {
     pub frq: u32,
     pub rms: u32,
     pub optime: u32,
+}
+
+// The settings, which routines are lent, and the drive, which goes by value. Every bit pattern is a plant.
+#[repr(C)]
+pub struct Plant {
+    pub settings: Settings,
+    pub drive: Drive,
 }
 
 // The column Start of rows 301 to 322.
@@ -54,14 +62,16 @@ impl Plant {
     {
         Plant {
             settings: Settings { words: START_WORDS },
-            mode: 1,
-            scmd: 0,
-            din1: 0,
-            causes: 0,
-            flags: 0,
-            frq: 0,
-            rms: 0,
-            optime: 0,
+            drive: Drive {
+                mode: 1,
+                scmd: 0,
+                din1: 0,
+                causes: 0,
+                flags: 0,
+                frq: 0,
+                rms: 0,
+                optime: 0,
+            },
         }
     }
 
@@ -69,9 +79,11 @@ impl Plant {
     pub fn restart(mut self) -> Plant
         ensures { λ r. ⌜ r ≡ restarted self ⌝ }
     {
-        self.mode = 1;
-        self.scmd = 0;
-        self.flags = self.causes;
+        let mut drive = self.drive;
+        drive.mode = 1;
+        drive.scmd = 0;
+        drive.flags = drive.causes;
+        self.drive = drive;
         self
     }
 }

@@ -1,36 +1,25 @@
 -- What a character is worth, by where it stands among 0-9 and A-F. Assumes nothing.
-use mathlib.Core.Path.{_≡_, refl}
+use mathlib.Core.Path.{_≡_, refl, sym, ap, _∙_}
 use mathlib.Core.Bool.{Bool, true, false}
 use Prim.Native.Nat.{ℕ, _+_, _-_, _%_, _<_, _≤_}
 use native.Mathlib.Omega.{arith}
 use borrow.Author.Tests.{le-leb, lt-leb, leb-true, lt-ltb, le-ltb}
 use lib.Dec.{leb}
 use Rattle.base.specs.Choice.{pick, either}
+use Rattle.base.proofs.Arms.{NoneOf, upFrom, past}
 use Rattle.base.proofs.Tests.{both-out}
 use Rattle.hex.specs.declared.Digit.{Digit}
 use Rattle.hex.specs.declared.Digit.the-variants.{Value, NotHex}
 use Rattle.hex.specs.Hex.{isNumeral, isCapital, isHex, digitValue, digitOf}
 
--- ---- by the code's tests
-pub value-under : (c : ℕ) → c < 0x30 → NotHex ≡ digitValue c
-unfolding digitValue
-value-under c h = simp (lt-leb 0x30 c h, lt-leb 0x41 c (omega arith))
-
+-- ---- by where it stands
 pub value-numeral : (c : ℕ) → 0x30 ≤ c → c ≤ 0x39 → Value (c - 0x30) ≡ digitValue c
 unfolding digitValue
 value-numeral c h k = simp (le-leb 0x30 c h, le-leb c 0x39 k)
 
-pub value-between : (c : ℕ) → 0x39 < c → c < 0x41 → NotHex ≡ digitValue c
-unfolding digitValue
-value-between c h k = simp (le-leb 0x30 c (omega arith), lt-leb c 0x39 h, lt-leb 0x41 c k)
-
 pub value-capital : (c : ℕ) → 0x41 ≤ c → c ≤ 0x46 → Value (c - 0x41 + 10) ≡ digitValue c
 unfolding digitValue
 value-capital c h k = simp (le-leb 0x30 c (omega arith), lt-leb c 0x39 (omega arith), le-leb 0x41 c h, le-leb c 0x46 k)
-
-pub value-over : (c : ℕ) → 0x46 < c → NotHex ≡ digitValue c
-unfolding digitValue
-value-over c h = simp (le-leb 0x30 c (omega arith), lt-leb c 0x39 (omega arith), le-leb 0x41 c (omega arith), lt-leb c 0x46 h)
 
 -- ---- what holds of a numeral's worth, of a capital's and of no digit holds of every character
 pub by-kind : (P : Bool → Digit → Type 0) (c : ℕ) → (0x30 ≤ c → c ≤ 0x39 → P true (Value (c - 0x30)))
@@ -42,6 +31,18 @@ by-kind P c numeral capital other = go (isNumeral c) (isCapital c) refl refl
     go true b p q = let r = both-out (leb 0x30 c) (leb c 0x39) p in numeral (leb-true 0x30 c (r .0)) (leb-true c 0x39 (r .1))
     go false true p q = let r = both-out (leb 0x41 c) (leb c 0x46) q in capital (leb-true 0x41 c (r .0)) (leb-true c 0x46 (r .1))
     go false false p q = other
+
+-- ---- by the code's tests: n is the character less `0`, m less `A`, modulo 256
+module _ (c n : ℕ) (wraps : (n + 0x30) % 256 ≡ c) where
+  pub value-first : n < 10 → Value n ≡ digitValue c
+  value-first h = let e : n ≡ c - 0x30 = omega arith in ap Value e ∙ value-numeral c (omega arith) (omega arith)
+
+  module _ (over : 10 ≤ n) (byte : n < 256) (m : ℕ) (wraps-too : (m + 0x41) % 256 ≡ c) where
+    pub value-second : m < 6 → Value (m + 10) ≡ digitValue c
+    value-second h = let e : m + 10 ≡ c - 0x41 + 10 = omega arith in ap Value e ∙ value-capital c (omega arith) (omega arith)
+
+    pub value-none : 6 ≤ m → m < 256 → NotHex ≡ digitValue c
+    value-none h k = by-kind (λ b d. NotHex ≡ d) c (λ p q. absurd (omega (arith, p, q))) (λ p q. absurd (omega (arith, p, q))) refl
 
 -- ---- the digit of a number
 pub digit-numeral : (n : ℕ) → n < 10 → digitOf n ≡ 0x30 + n
@@ -56,3 +57,14 @@ digit-capital n h k = let m : n % 16 ≡ n = omega arith in simp (m, le-ltb n 10
 pub digit-rest : (n : ℕ) → digitOf (n % 16) ≡ digitOf n
 unfolding digitOf
 digit-rest n = let m : n % 16 % 16 ≡ n % 16 = omega arith in simp m
+
+-- ---- by the code's arms
+pub digit-at : (k n r : ℕ) → n % 16 ≡ k → r ≡ digitOf k → r ≡ digitOf n
+digit-at k n r e q = q ∙ sym (ap digitOf e) ∙ digit-rest n
+
+pub digit-last : (n : ℕ) → NoneOf (n % 16) (upFrom 0 15) → 0x46 ≡ digitOf n
+unfolding digitOf
+digit-last n h =
+    let top : 15 ≤ n % 16 = past 15 0 (n % 16) (omega arith) h in
+    let e : n % 16 ≡ 15 = omega (arith, top) in
+    digit-at 15 n 0x46 e refl

@@ -18,21 +18,17 @@ pub enum Pair {
     NoByte,
 }
 
-// What `character` is worth: 0 to 15, or no hex digit. A small letter is none.
+// What `character` is worth: 0 to 15, or no hex digit. A small letter is none. A character below `0` or `A` wraps to a number that is too high.
 pub fn digit_value(character: u8) -> Digit
     ensures { λ r. ⌜ r ≡ digitValue character ⌝ }
 {
-    if character < b'0' {
-        return Digit::NotHex;
+    let numeral = std::num::wrapping_sub_u8(character, b'0');
+    if numeral < 10 {
+        return Digit::Value(numeral);
     }
-    if character <= b'9' {
-        return Digit::Value(character - b'0');
-    }
-    if character < b'A' {
-        return Digit::NotHex;
-    }
-    if character <= b'F' {
-        return Digit::Value(character - b'A' + 10);
+    let capital = std::num::wrapping_sub_u8(character, b'A');
+    if capital < 6 {
+        return Digit::Value(capital + 10);
     }
     Digit::NotHex
 }
@@ -41,8 +37,24 @@ pub fn digit_value(character: u8) -> Digit
 pub fn digit_of(number: u8) -> u8
     ensures { λ r. ⌜ r ≡ digitOf number ⌝ }
 {
-    let n = number % 16;
-    if n < 10 { b'0' + n } else { b'A' + (n - 10) }
+    match number % 16 {
+        0 => b'0',
+        1 => b'1',
+        2 => b'2',
+        3 => b'3',
+        4 => b'4',
+        5 => b'5',
+        6 => b'6',
+        7 => b'7',
+        8 => b'8',
+        9 => b'9',
+        10 => b'A',
+        11 => b'B',
+        12 => b'C',
+        13 => b'D',
+        14 => b'E',
+        _ => b'F',
+    }
 }
 
 // The byte that two digits spell, the high one first.

@@ -2,11 +2,12 @@
 use mathlib.Core.Path.{_≡_, refl}
 use mathlib.Core.List.{List, [], map}
 use Prim.Native.Nat.{ℕ}
+use Rattle.base.specs.Bytes.{same}
 use Rattle.base.specs.Buffers.{front, fitting}
 use Rattle.hex.specs.Hex.{digitOf, digitValue, pairValue, hexOf, bytesOf}
 use Rattle.checks.specs.Lrc.{sumOf, addsToZero, lrcOf}
-use Rattle.modbus.specs.Words.{wordBytes, wordAt}
-use Rattle.ascii.specs.Ascii.{textOf, bytesIn, counted, right, same, formed, asciiOf, addressIn, unitIn}
+use Rattle.modbus_words.specs.Words.{wordBytes, wordAt}
+use Rattle.ascii.specs.Ascii.{textOf, bytesIn, counted, right, formed, asciiOf, addressIn, unitIn}
 use Rattle.master.specs.Sent.{bytesSent}
 use Rattle.master_request.specs.declared.Ask.{Ask}
 use Rattle.master_request.specs.Ask.{readSayable, headOf, sayable, requestUnit}

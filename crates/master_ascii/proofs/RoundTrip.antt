@@ -12,7 +12,7 @@ use Rattle.base.proofs.Lists.{below-take, below-drop}
 use Rattle.hex.proofs.RoundTrip.{bytes-below}
 use Rattle.modbus.specs.Request.{requestOf}
 use Rattle.modbus.specs.Answer.{unitOf}
-use Rattle.modbus.specs.declared.answers.Answer.{Answer}
+use Rattle.modbus.specs.declared.replies.Answer.{Answer}
 use Rattle.modbus.proofs.Units as units
 use Rattle.ascii.specs.Ascii.{bytesIn, formed, asciiOf, addressIn, unitIn}
 use Rattle.ascii.proofs.RoundTrip as ascii

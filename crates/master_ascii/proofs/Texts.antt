@@ -10,13 +10,13 @@ use lib.Dec.{leb, eqb}
 use lib.ListN.{length, take, drop, getD, length-take, length-drop, take-append-drop, drop-of-length-le}
 use lib.Seq.{drop-cons, drop-drop, take-at, getD-at, getD-append-add}
 use Rattle.base.specs.Choice.{both}
-use Rattle.base.specs.Bytes.{Bytes}
+use Rattle.base.specs.Bytes.{Bytes, same}
 use Rattle.base.proofs.Tests.{both-out, both-in, both-false}
 use Rattle.hex.specs.Hex.{hexOf, bytesOf}
 use Rattle.hex.proofs.RoundTrip.{length-hex, bytes-of-hex, bytes-below, length-bytes, hex-of-bytes}
 use Rattle.modbus.specs.Request.{between}
 use Rattle.checks.specs.Lrc.{addsToZero}
-use Rattle.ascii.specs.Ascii.{textOf, bytesIn, counted, right, same, formed}
+use Rattle.ascii.specs.Ascii.{textOf, bytesIn, counted, right, formed}
 use Rattle.ascii.proofs.Message.{text-bytes, text-length, counted-out, message-out, message-in}
 use Rattle.master_ascii.specs.Heard.{framed}
 

@@ -11,15 +11,15 @@ use Rattle.base.proofs.Tests.{is-false}
 use Rattle.table.specs.declared.labels.ENumber.{ENumber}
 use Rattle.nfo.specs.Shape.{Kind, byte, fits, whole}
 use Rattle.nfo.specs.Message.{ADR}
-use Rattle.nfo.specs.declared.message.Parameter.{Parameter}
-use Rattle.nfo.specs.declared.message.Parameter.the-variants.{Number, NoNumber}
-use Rattle.nfo.specs.declared.message.Value.{Value}
-use Rattle.nfo.specs.declared.message.Value.the-variants.{Word, NotHex}
-use Rattle.nfo.specs.Parts.{parameterAt, valueAt}
-use Rattle.nfo.specs.Replies.{replyOf, ackOf, nakOf}
+use Rattle.nfo_parts.specs.declared.message.Parameter.{Parameter}
+use Rattle.nfo_parts.specs.declared.message.Parameter.the-variants.{Number, NoNumber}
+use Rattle.nfo_parts.specs.declared.message.Value.{Value}
+use Rattle.nfo_parts.specs.declared.message.Value.the-variants.{Word, NotHex}
+use Rattle.nfo_parts.specs.Parts.{parameterAt, valueAt}
+use Rattle.nfo_parts.specs.Replies.{replyOf, ackOf, nakOf}
 use Rattle.nfo.proofs.Shape.{whole-length, whole-at}
 use Rattle.nfo.proofs.Address.{adr-only}
-use Rattle.nfo.proofs.Written.{reply-length}
+use Rattle.nfo_parts.proofs.Written.{reply-length}
 use Rattle.master_nfo.specs.declared.replies.Reply.{Reply}
 use Rattle.master_nfo.specs.declared.replies.Reply.the-variants.{Told, Acknowledged, Refused, NotAReply}
 use Rattle.master_nfo.specs.Replies.{ack, nak, replied, toldBy, addressIn, readOf}

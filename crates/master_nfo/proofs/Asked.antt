@@ -10,7 +10,7 @@ use lib.Seq.{sets}
 use Rattle.base.specs.Buffers.{front, fitting}
 use Rattle.base.proofs.Tests.{both-out, is-false}
 use Rattle.hex.specs.Hex.{hexOf}
-use Rattle.nfo.specs.Replies.{digitsOf, bodyOf, replyOf}
+use Rattle.nfo_parts.specs.Replies.{digitsOf, bodyOf, replyOf}
 use Rattle.master.specs.declared.Sent.{Sent}
 use Rattle.master.specs.Sent.{sentOf, bytesSent}
 use Rattle.master.proofs.Sends.{said-sent, said-lent}

@@ -14,13 +14,14 @@ use Rattle.checks.specs.Bcc.{bccOf}
 use Rattle.table.specs.declared.labels.ENumber.{ENumber}
 use Rattle.nfo.specs.Shape.{any, fits, whole}
 use Rattle.nfo.specs.Message.{ADR, enquiry, select, bccIn, formed}
-use Rattle.nfo.specs.declared.message.Parameter.the-variants.{Number, NoNumber}
-use Rattle.nfo.specs.declared.message.Value.{Value}
-use Rattle.nfo.specs.declared.message.Value.the-variants.{Word, NotHex}
-use Rattle.nfo.specs.Parts.{numberIn, parameterAt, valueAt}
-use Rattle.nfo.specs.Replies.{digitsOf, bodyOf, replyOf}
+use Rattle.nfo_parts.specs.declared.message.Parameter.the-variants.{Number, NoNumber}
+use Rattle.nfo_parts.specs.declared.message.Value.{Value}
+use Rattle.nfo_parts.specs.declared.message.Value.the-variants.{Word, NotHex}
+use Rattle.nfo_parts.specs.Parts.{numberIn, parameterAt, valueAt}
+use Rattle.nfo_parts.specs.Replies.{digitsOf, bodyOf, replyOf}
 use Rattle.nfo.proofs.Shape.{whole-length, whole-at}
-use Rattle.nfo.proofs.Written.{reply-length, reply-formed}
+use Rattle.nfo_parts.proofs.Written.{reply-length}
+use Rattle.nfo.proofs.Formed.{reply-formed}
 use Rattle.master_nfo.specs.Replies.{reply, checked, replied}
 use Rattle.master_nfo.proofs.Words.{never, places, placed, word-spelt, value-digits}
 

@@ -5,8 +5,8 @@ use Prim.Native.Nat.{ℕ}
 use Rattle.hex.specs.Hex.{digitValue, digitOf, pairValue, hexOf}
 use Rattle.checks.specs.Bcc.{bccOf}
 use Rattle.nfo.specs.Shape.{whole}
-use Rattle.nfo.specs.Parts.{valueAt, parameterAt}
-use Rattle.nfo.specs.Replies.{digitsOf, bodyOf}
+use Rattle.nfo_parts.specs.Parts.{valueAt, parameterAt}
+use Rattle.nfo_parts.specs.Replies.{digitsOf, bodyOf}
 use Rattle.master_nfo.specs.declared.replies.Reply.{Reply}
 use Rattle.master_nfo.specs.Requests.{enquiryOf, selectOf}
 use Rattle.master_nfo.specs.Replies.{reply, ack, nak, checked, replied, readOf}

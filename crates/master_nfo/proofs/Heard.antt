@@ -8,14 +8,14 @@ use Rattle.base.proofs.Tests.{both-out}
 use Rattle.hex.specs.Hex.{hexOf}
 use Rattle.nfo.specs.Shape.{any, fits, whole}
 use Rattle.nfo.specs.Message.{enquiry, formed, nfo}
-use Rattle.nfo.specs.declared.message.Parameter.the-variants.{Number}
-use Rattle.nfo.specs.declared.message.Value.the-variants.{Word}
-use Rattle.nfo.specs.declared.message.Message.the-variants.{Enquiry, Select}
-use Rattle.nfo.specs.Parts.{numberIn, parameterAt, valueAt, messageOf}
-use Rattle.nfo.specs.Replies.{digitsOf, bodyOf, replyOf}
+use Rattle.nfo_parts.specs.declared.message.Parameter.the-variants.{Number}
+use Rattle.nfo_parts.specs.declared.message.Value.the-variants.{Word}
+use Rattle.nfo_parts.specs.declared.message.Message.the-variants.{Enquiry, Select}
+use Rattle.nfo_parts.specs.Parts.{numberIn, parameterAt, valueAt, messageOf}
+use Rattle.nfo_parts.specs.Replies.{digitsOf, bodyOf, replyOf}
 use Rattle.nfo.proofs.Address.{adr-fits}
 use Rattle.nfo.proofs.Shape.{whole-at}
-use Rattle.nfo.proofs.Written.{reply-formed}
+use Rattle.nfo.proofs.Formed.{reply-formed}
 use Rattle.master_nfo.specs.Requests.{enquiryOf, selectOf}
 use Rattle.master_nfo.specs.Replies.{reply, checked, replied}
 use Rattle.master_nfo.proofs.Words.{word-spelt}

@@ -14,11 +14,11 @@ use Rattle.checks.specs.Bcc.{bccOf}
 use Rattle.table.specs.declared.labels.ENumber.{ENumber}
 use Rattle.nfo.specs.Shape.{Kind, fits, whole}
 use Rattle.nfo.specs.Message.{ADR}
-use Rattle.nfo.specs.declared.message.Parameter.the-variants.{Number}
-use Rattle.nfo.specs.declared.message.Value.{Value}
-use Rattle.nfo.specs.declared.message.Value.the-variants.{Word, NotHex}
-use Rattle.nfo.specs.Parts.{parameterAt, valueAt}
-use Rattle.nfo.specs.Replies.{digitsOf, bodyOf, replyOf}
+use Rattle.nfo_parts.specs.declared.message.Parameter.the-variants.{Number}
+use Rattle.nfo_parts.specs.declared.message.Value.{Value}
+use Rattle.nfo_parts.specs.declared.message.Value.the-variants.{Word, NotHex}
+use Rattle.nfo_parts.specs.Parts.{parameterAt, valueAt}
+use Rattle.nfo_parts.specs.Replies.{digitsOf, bodyOf, replyOf}
 use Rattle.nfo.proofs.Shape.{whole-length}
 use Rattle.nfo.proofs.Address.{adr-only}
 use Rattle.master_nfo.specs.declared.replies.Reply.{Reply}

@@ -8,9 +8,9 @@ use Rattle.hex.specs.declared.Pair.{Pair}
 use Rattle.hex.specs.declared.Pair.the-variants.{Byte, NoByte}
 use Rattle.hex.specs.Hex.{pairValue, hexOf, digitOf}
 use Rattle.hex.proofs.RoundTrip.{pair-digits, digits-pair, pair-below}
-use Rattle.nfo.specs.declared.message.Value.the-variants.{Word}
-use Rattle.nfo.specs.Parts.{wordIn, valueAt}
-use Rattle.nfo.specs.Replies.{digitsOf}
+use Rattle.nfo_parts.specs.declared.message.Value.the-variants.{Word}
+use Rattle.nfo_parts.specs.Parts.{wordIn, valueAt}
+use Rattle.nfo_parts.specs.Replies.{digitsOf}
 
 -- what follows where two constructors would be equal, of which `cc` makes 0 ≡ 1
 pub never : {A : Type 0} → _≡_ {A = ℕ} 0 1 → A

@@ -9,11 +9,11 @@ use Rattle.base.specs.Order.{when, firstOf}
 use Rattle.checks.specs.Bcc.{bccOf}
 use Rattle.nfo.specs.Shape.{Kind, byte, whole}
 use Rattle.nfo.specs.Message.{ADR, p, v, BCC}
-use Rattle.nfo.specs.declared.message.Parameter.{Parameter}
-use Rattle.nfo.specs.declared.message.Parameter.the-variants.{Number, NoNumber}
-use Rattle.nfo.specs.declared.message.Value.{Value}
-use Rattle.nfo.specs.declared.message.Value.the-variants.{Word, NotHex}
-use Rattle.nfo.specs.Parts.{parameterAt, valueAt}
+use Rattle.nfo_parts.specs.declared.message.Parameter.{Parameter}
+use Rattle.nfo_parts.specs.declared.message.Parameter.the-variants.{Number, NoNumber}
+use Rattle.nfo_parts.specs.declared.message.Value.{Value}
+use Rattle.nfo_parts.specs.declared.message.Value.the-variants.{Word, NotHex}
+use Rattle.nfo_parts.specs.Parts.{parameterAt, valueAt}
 use Rattle.master_nfo.specs.declared.replies.Reply.{Reply}
 use Rattle.master_nfo.specs.declared.replies.Reply.the-variants.{Told, Acknowledged, Refused, NotAReply}
 

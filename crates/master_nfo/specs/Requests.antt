@@ -5,7 +5,7 @@ use Prim.Native.Nat.{ℕ, _+_}
 use lib.Dec.{eqb, leb}
 use Rattle.base.specs.Choice.{both}
 use Rattle.checks.specs.Bcc.{bccOf}
-use Rattle.nfo.specs.Replies.{digitsOf, bodyOf}
+use Rattle.nfo_parts.specs.Replies.{digitsOf, bodyOf}
 
 -- "13 (addresses above 95 .., a broadcast read ..)", and "95 is broadcast"
 unfoldable pub enquirable : ℕ → Bool

@@ -1,6 +1,6 @@
 // Reading REPLY, ACK and NAK.
 use hex::Pair;
-use nfo::Value;
+use nfo_parts::Value;
 use table::ENumber;
 ghost use mathlib.Core.Path.{_≡_};
 ghost use mathlib.Core.List.{[], _∷_};
@@ -8,7 +8,7 @@ ghost use Prim.Native.Nat.{_+_, _*_, _≤_};
 ghost use lib.ListN.{length};
 ghost use Rattle.nfo.specs.Shape.{fits};
 ghost use Rattle.nfo.specs.Message.{ADR};
-ghost use Rattle.nfo.specs.Parts.{valueAt};
+ghost use Rattle.nfo_parts.specs.Parts.{valueAt};
 ghost use Rattle.master_nfo.specs.Replies.{replyNumber, checked, readOf};
 ghost use Rattle.master_nfo.specs.Frame.{marked, framed};
 

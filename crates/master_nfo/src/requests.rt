@@ -54,6 +54,6 @@ fn select_to(address: u8, e: ENumber, word: u16) -> [u8; 15]
     ensures { λ r. ⌜ r ≡ selectOf address (e .0) word ⌝ }
 {
     let mut m = [0x04; 15];
-    nfo::reply(address + 32, e, word, &mut m[1..15]);
+    nfo_parts::reply(address + 32, e, word, &mut m[1..15]);
     m
 }

@@ -7,17 +7,17 @@ use native.Mathlib.Omega.{arith}
 use borrow.Author.Tests.{le-leb, lt-leb, eq-eqb, ne-eqb}
 use lib.Bits.{bitOr, or-add-and, and-le-l}
 use lib.ListN.{length, getD}
-use Rattle.modbus.specs.Words.{wordBytes, longBytes, wordAt}
+use Rattle.modbus_words.specs.Words.{wordBytes, longBytes, wordAt}
 use Rattle.modbus.specs.Request.{label}
 use Rattle.modbus.specs.Answer.{unitOf}
-use Rattle.modbus.specs.declared.answers.Answer.{Answer}
-use Rattle.modbus.specs.declared.answers.Answer.the-variants as answer
+use Rattle.modbus.specs.declared.replies.Answer.{Answer}
+use Rattle.modbus.specs.declared.replies.Answer.the-variants as answer
 use Rattle.master_reply.specs.declared.Reply.{Reply}
 use Rattle.master_reply.specs.declared.Reply.the-variants.{Data, One, Many, Exception, NotAReply}
 use Rattle.master_reply.specs.Reply.{readCount, tellsData, tellsOne, tellsMany, tellsException, told, replyOf, registersOf, wordsFrom, heard, heardOf}
 use Rattle.master_reply.specs.Told.{wordsBytes, addressOf, replyUnit, Within, IsReply, replyTo, wordsTold, IsAnswer}
 use Rattle.master_reply.proofs.Units.{reply-read}
-use Rattle.modbus.proofs.Laws.{word-own}
+use Rattle.modbus_words.proofs.Laws.{word-own}
 use Rattle.master_reply.proofs.Words.{shift-words, bytes-length, words-again}
 
 -- ---- what each kind of unit tells

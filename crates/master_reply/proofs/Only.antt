@@ -12,7 +12,7 @@ use Rattle.base.specs.Bytes.{AllBelow, Bytes}
 use Rattle.base.specs.Buffers.{front}
 use Rattle.base.proofs.Tests.{both-out, pick-both}
 use Rattle.base.proofs.Sets.{take-front}
-use Rattle.modbus.specs.Words.{wordBytes, wordAt}
+use Rattle.modbus_words.specs.Words.{wordBytes, wordAt}
 use Rattle.modbus.specs.Request.{label, between}
 use Rattle.master_reply.specs.declared.Reply.{Reply}
 use Rattle.master_reply.specs.declared.Reply.the-variants.{Data, One, Many, Exception}

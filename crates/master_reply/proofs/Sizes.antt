@@ -5,10 +5,10 @@ use Prim.Native.Nat.{ℕ, _≤_}
 use native.Mathlib.Omega.{arith}
 use lib.ListN.{length}
 use Rattle.base.specs.Bytes.{AllBelow, Bytes}
-use Rattle.modbus.specs.Words.{wordBytes}
+use Rattle.modbus_words.specs.Words.{wordBytes}
 use Rattle.modbus.specs.Answer.{unitOf}
-use Rattle.modbus.specs.declared.answers.Answer.{Answer}
-use Rattle.modbus.specs.declared.answers.Answer.the-variants as answer
+use Rattle.modbus.specs.declared.replies.Answer.{Answer}
+use Rattle.modbus.specs.declared.replies.Answer.the-variants as answer
 use Rattle.master_reply.specs.declared.Reply.{Reply}
 use Rattle.master_reply.specs.declared.Reply.the-variants.{Data, One, Many, Exception, NotAReply}
 use Rattle.master_reply.specs.Reply.{registersOf}

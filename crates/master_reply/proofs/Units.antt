@@ -14,7 +14,7 @@ use Rattle.base.specs.Choice.{both}
 use Rattle.base.specs.Buffers.{front}
 use Rattle.base.proofs.Tests.{both-out, pick-both}
 use Rattle.base.proofs.Sets.{sets-front}
-use Rattle.modbus.specs.Words.{wordAt}
+use Rattle.modbus_words.specs.Words.{wordAt}
 use Rattle.modbus.specs.Request.{between}
 use Rattle.master_reply.specs.declared.Heard.{Heard}
 use Rattle.master_reply.specs.declared.Reply.{Reply}

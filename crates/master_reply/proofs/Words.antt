@@ -5,8 +5,8 @@ use Prim.Native.Nat.{ℕ, zero, suc, _+_, _*_, _/_, _%_, _<_}
 use native.Mathlib.Omega.{arith}
 use lib.ListN.{length, getD}
 use Rattle.base.specs.Bytes.{AllBelow, Bytes}
-use Rattle.modbus.specs.Words.{wordBytes, wordAt}
-use Rattle.modbus.proofs.Laws.{word-own}
+use Rattle.modbus_words.specs.Words.{wordBytes, wordAt}
+use Rattle.modbus_words.proofs.Laws.{word-own}
 use Rattle.master_reply.specs.Reply.{wordsFrom}
 use Rattle.master_reply.specs.Told.{wordsBytes}
 

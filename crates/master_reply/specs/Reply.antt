@@ -7,7 +7,7 @@ use lib.ListN.{length, getD, replicate}
 use Rattle.base.specs.Choice.{pick, both}
 use Rattle.base.specs.Buffers.{front}
 use Rattle.base.specs.Order.{Line, when, firstOf}
-use Rattle.modbus.specs.Words.{wordAt}
+use Rattle.modbus_words.specs.Words.{wordAt}
 use Rattle.modbus.specs.Request.{label, between}
 use Rattle.master_reply.specs.declared.Heard.{Heard}
 use Rattle.master_reply.specs.declared.Reply.{Reply}

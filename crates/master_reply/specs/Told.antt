@@ -8,9 +8,9 @@ use lib.Dec.{eqb}
 use lib.ListN.{take}
 use Rattle.base.specs.Choice.{pick}
 use Rattle.base.specs.Bytes.{AllBelow}
-use Rattle.modbus.specs.Words.{wordBytes}
-use Rattle.modbus.specs.declared.answers.Answer.{Answer}
-use Rattle.modbus.specs.declared.answers.Answer.the-variants as answer
+use Rattle.modbus_words.specs.Words.{wordBytes}
+use Rattle.modbus.specs.declared.replies.Answer.{Answer}
+use Rattle.modbus.specs.declared.replies.Answer.the-variants as answer
 use Rattle.master_reply.specs.declared.Heard.{Heard}
 use Rattle.master_reply.specs.declared.Reply.{Reply}
 use Rattle.master_reply.specs.declared.Reply.the-variants.{Data, One, Many, Exception, NotAReply}

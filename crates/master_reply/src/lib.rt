@@ -1,7 +1,7 @@
 // The replies that a Modbus master reads: `read_unit` tells what an address and a data unit are, with the register words of a read beside it.
 // RTU and ASCII test what stands around these.
-use modbus::byte_at;
-use modbus::word_at;
+use modbus_words::byte_at;
+use modbus_words::word_at;
 use table::Register;
 ghost use mathlib.Core.Path.{_≡_};
 ghost use Prim.Native.Nat.{_≤_};

@@ -10,10 +10,11 @@ use lib.Seq.{take-all}
 use Rattle.base.specs.Bytes.{AllBelow, Bytes}
 use Rattle.base.proofs.Tests.{both-in}
 use Rattle.table.specs.declared.labels.Register.{Register}
-use Rattle.modbus.specs.Words.{wordBytes, wordAt}
+use Rattle.modbus_words.specs.Words.{wordBytes, wordAt}
 use Rattle.modbus.specs.Request.{span, reads, writes, asked, requestOf}
 use Rattle.modbus.specs.declared.requests.Request.the-variants as request
-use Rattle.modbus.proofs.Laws.{word-own, asked-read, asked-one, asked-many}
+use Rattle.modbus_words.proofs.Laws.{word-own}
+use Rattle.modbus.proofs.Laws.{asked-read, asked-one, asked-many}
 use Rattle.master_request.specs.declared.Ask.{Ask}
 use Rattle.master_request.specs.declared.Ask.the-variants.{Holding, Input, One, Many}
 use Rattle.master_request.specs.Ask.{readSayable, manySayable, headOf, manyUnit, sayable, requestUnit}

@@ -12,7 +12,7 @@ use lib.Seq.{sets, take-length}
 use Rattle.base.specs.Buffers.{front}
 use Rattle.base.proofs.Sets.{sets-append, sets-rest, sets-front, length-front}
 use Rattle.table.specs.declared.labels.Register.{Register}
-use Rattle.modbus.specs.Words.{wordBytes}
+use Rattle.modbus_words.specs.Words.{wordBytes}
 use Rattle.master_request.specs.declared.Body.{Body}
 use Rattle.master_request.specs.declared.Ask.{Ask}
 use Rattle.master_request.specs.declared.Ask.the-variants.{Many}

@@ -7,7 +7,7 @@ use lib.ListN.{length, replicate}
 use Rattle.base.specs.Choice.{pick, both}
 use Rattle.base.specs.Buffers.{front}
 use Rattle.table.specs.declared.labels.Register.{Register}
-use Rattle.modbus.specs.Words.{wordBytes}
+use Rattle.modbus_words.specs.Words.{wordBytes}
 use Rattle.modbus.specs.Request.{between}
 use Rattle.master_request.specs.declared.Body.{Body}
 use Rattle.master_request.specs.declared.Ask.{Ask}

@@ -5,7 +5,7 @@ use Prim.Native.Nat.{ℕ}
 use lib.ListN.{length}
 use Rattle.base.specs.Buffers.{front, fitting}
 use Rattle.checks.specs.Crc.{crcBit, crcByte, crcOf, crcBytes, bodyOf, crcTold, crcHolds}
-use Rattle.modbus.specs.Words.{wordBytes, wordAt}
+use Rattle.modbus_words.specs.Words.{wordBytes, wordAt}
 use Rattle.rtu.specs.Rtu.{frameHolds, addressIn, unitIn, rtuOf}
 use Rattle.master.specs.Sent.{bytesSent}
 use Rattle.master_request.specs.declared.Ask.{Ask}

@@ -12,10 +12,10 @@ use Rattle.base.proofs.Tests.{pick-both}
 use Rattle.base.proofs.Lists.{below-drop}
 use Rattle.checks.specs.Crc.{bodyOf, crcBytes}
 use Rattle.checks.proofs.Laws.{body-below}
-use Rattle.modbus.specs.Words.{wordBytes}
+use Rattle.modbus_words.specs.Words.{wordBytes}
 use Rattle.modbus.specs.Request.{requestOf}
 use Rattle.modbus.specs.Answer.{unitOf}
-use Rattle.modbus.specs.declared.answers.Answer.{Answer}
+use Rattle.modbus.specs.declared.replies.Answer.{Answer}
 use Rattle.modbus.proofs.Units.{unit-short}
 use Rattle.rtu.specs.Rtu.{frameHolds, addressIn, unitIn, rtuOf, partOf, dataOf, registerSpan, registerData}
 use Rattle.rtu.proofs.RoundTrip.{own-address, own-unit, own-frame, frame-only}

@@ -10,7 +10,7 @@ use mir.Val.{Fits}
 use Rattle.base.specs.Buffers.{front}
 use Rattle.modbus.specs.Answer.{unitOf}
 use Rattle.modbus.specs.Reply.{replyIn}
-use Rattle.modbus.specs.declared.answers.Answer.{Answer}
+use Rattle.modbus.specs.declared.replies.Answer.{Answer}
 use Rattle.modbus.proofs.Units.{unit-short}
 
 -- ---- a buffer under 19 bytes gets nothing, any other gets the reply

@@ -1,43 +1,17 @@
--- What the code's tests and calls show of words and requests. Assumes nothing.
+-- What the code's tests and calls show of requests. Assumes nothing.
 use mathlib.Core.Path.{_≡_, refl, sym, _∙_}
 use mathlib.Core.Bool.{Bool, true, false}
 use mathlib.Core.List.{List}
-use Prim.Native.Nat.{ℕ, _+_, _*_, _/_, _%_, _≤_, _<_}
+use Prim.Native.Nat.{ℕ, _+_, _*_, _≤_, _<_}
 use native.Mathlib.Omega.{arith}
-use lib.ListN.{length, getD, List·getD-eq-default}
+use lib.ListN.{length, getD}
 use borrow.Author.Tests.{eq-eqb, ne-eqb, eqb-false}
 use lib.Dec.{eqb}
 use Rattle.base.specs.Choice.{pick, either}
-use Rattle.modbus.specs.Words.{wordAt, longAt}
+use Rattle.modbus_words.specs.Words.{wordAt}
 use Rattle.modbus.specs.Request.{label, span, reads, writes, asked, requestOf}
 use Rattle.modbus.specs.declared.requests.Request.{Request}
 use Rattle.modbus.specs.declared.requests.Request.the-variants.{Read, One, Many, Malformed, Unknown}
-
--- ---- words past the end, and words of the bytes that were read
-pub word-past : (s : List ℕ) (i : ℕ) → length s ≤ i → 0 ≡ wordAt s i
-unfolding wordAt
-word-past s i h = let g : length s ≤ i + 1 = omega arith in simp (List·getD-eq-default s 0 h, List·getD-eq-default s 0 g)
-
-pub word-read : (s : List ℕ) (i high low : ℕ) → high ≡ getD s i 0 → low ≡ getD s (i + 1) 0 → 256 * high + low ≡ wordAt s i
-unfolding wordAt
-word-read s i high low p q = cc
-
--- a word is that of its bytes
-pub word-own : (w : ℕ) → 256 * (w / 256) + w % 256 ≡ w
-word-own w = omega arith
-
-pub long-past : (s : List ℕ) (i : ℕ) → length s ≤ i → 0 ≡ longAt s i
-unfolding longAt
-long-past s i h = let g : length s ≤ i + 2 = omega arith in simp (sym (word-past s i h), sym (word-past s (i + 2) g))
-
--- the last register is its own word
-pub long-last : (s : List ℕ) (i : ℕ) → length s ≤ i + 2 → longAt s i ≡ wordAt s i
-unfolding longAt
-long-last s i h = omega (arith, word-past s (i + 2) h)
-
-pub long-read : (s : List ℕ) (i low high : ℕ) → low ≡ wordAt s i → high ≡ wordAt s (i + 2) → low + 65536 * high ≡ longAt s i
-unfolding longAt
-long-read s i low high p q = cc
 
 -- ---- requests, by the function and what was read of the unit
 read-known : (f : ℕ) → 3 ≤ f → f < 5 → either (eqb f 3) (eqb f 4) ≡ true

@@ -11,10 +11,10 @@ use lib.Seq.{sets, length-sets}
 use borrow.Rule.Slice.PartMut.{midOf, putMid}
 use Rattle.base.specs.Bytes.{AllBelow, Bytes}
 use Rattle.base.proofs.Sets.{sets-out, sets-rest, headed}
-use Rattle.modbus.specs.Words.{wordBytes, longBytes}
+use Rattle.modbus_words.specs.Words.{wordBytes, longBytes}
 use Rattle.modbus.specs.Answer.{unitOf}
-use Rattle.modbus.specs.declared.answers.Answer.{Answer}
-use Rattle.modbus.specs.declared.answers.Answer.the-variants.{Word, Long, Echo, Exception}
+use Rattle.modbus.specs.declared.replies.Answer.{Answer}
+use Rattle.modbus.specs.declared.replies.Answer.the-variants.{Word, Long, Echo, Exception}
 
 -- a copy of the unit of the case k tells its count and stores it
 pub unit-count : (answer k : Answer) (n : ℕ) → answer ≡ k → n ≡ length (unitOf k) → n ≡ length (unitOf answer)

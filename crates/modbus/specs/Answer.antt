@@ -2,9 +2,9 @@
 use mathlib.Core.List.{List, [], _∷_, _++_}
 use Prim.Native.Nat.{ℕ}
 use lib.Bits.{bitOr}
-use Rattle.modbus.specs.Words.{wordBytes, longBytes}
-use Rattle.modbus.specs.declared.answers.Answer.{Answer}
-use Rattle.modbus.specs.declared.answers.Answer.the-variants.{Word, Long, Echo, Exception}
+use Rattle.modbus_words.specs.Words.{wordBytes, longBytes}
+use Rattle.modbus.specs.declared.replies.Answer.{Answer}
+use Rattle.modbus.specs.declared.replies.Answer.the-variants.{Word, Long, Echo, Exception}
 
 -- 03 and 04:  function, byte count, the row's one or two registers
 -- 06 and 16:  the request's function, register and word or count

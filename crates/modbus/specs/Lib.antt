@@ -1,4 +1,3 @@
-pub mod Words
 pub mod Request
 pub mod Answer
 pub mod Reply

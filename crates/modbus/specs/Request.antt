@@ -6,7 +6,7 @@ use lib.Dec.{leb, eqb}
 use lib.ListN.{length, getD}
 use Rattle.base.specs.Choice.{pick, both, either}
 use Rattle.table.specs.declared.labels.Register.{Register}
-use Rattle.modbus.specs.Words.{wordAt}
+use Rattle.modbus_words.specs.Words.{wordAt}
 use Rattle.modbus.specs.declared.requests.Span.{Span}
 use Rattle.modbus.specs.declared.requests.Request.{Request}
 use Rattle.modbus.specs.declared.requests.Request.the-variants.{Read, One, Many, Malformed, Unknown}

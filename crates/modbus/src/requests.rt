@@ -1,6 +1,6 @@
 // The data unit of a request: its bytes after the address, without the check.
-use crate::words::byte_at;
-use crate::words::word_at;
+use modbus_words::byte_at;
+use modbus_words::word_at;
 use table::Register;
 ghost use mathlib.Core.Path.{_≡_};
 ghost use Rattle.modbus.specs.Request.{reads, writes, asked, requestOf};

@@ -19,12 +19,12 @@ use Rattle.permit.specs.declared.Permit.{Permit}
 use Rattle.permit.specs.declared.Permit.the-variants as Permits
 use Rattle.writing.specs.Write.{written}
 use Rattle.service.specs.Serving.{isNone, theRow, permitted, toldServed, wroteServed}
-use Rattle.modbus.specs.Words.{wordAt, longAt}
+use Rattle.modbus_words.specs.Words.{wordAt, longAt}
 use Rattle.modbus.specs.Request.{between, reads, writes, asked, requestOf}
 use Rattle.modbus.specs.declared.requests.Span.{Span}
 use Rattle.modbus.specs.declared.requests.Request.{Request}
 use Rattle.modbus.specs.declared.requests.Request.the-variants.{Read, One, Many, Malformed, Unknown}
-use Rattle.modbus.specs.declared.answers.Answer as Units
+use Rattle.modbus.specs.declared.replies.Answer as Units
 use Rattle.modbus_service.specs.Serve.{toAll, reachesUs, asksRead, taskOf, done, served}
 use Rattle.modbus_service.specs.Reply.{headOf, answered, repliedBy, replied, exchanged}
 use Rattle.modbus_service.specs.declared.Reply.{Reply}

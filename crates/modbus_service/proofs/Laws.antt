@@ -1,5 +1,5 @@
 -- Serving a data unit, case by case: what the tests and the callees told, and the case of the definition. Assumes nothing.
-use mathlib.Core.Path.{_≡_, refl, sym, _∙_}
+use mathlib.Core.Path.{_≡_, refl, sym, ap, _∙_}
 use mathlib.Core.Bool.{Bool, true, false, not}
 use mathlib.Core.List.{List}
 use Prim.Native.Nat.{ℕ, _%_, _<_}
@@ -13,31 +13,32 @@ use Rattle.table.specs.declared.labels.Row.{Row}
 use Rattle.table.specs.declared.labels.Register.{Register}
 use Rattle.table.specs.declared.labels.Found.{Found}
 use Rattle.table.specs.declared.labels.Found.the-variants.{At, NoRow}
+use Rattle.drive.specs.declared.plant.Drive.{Drive}
 use Rattle.drive.specs.declared.plant.Plant.{Plant}
+use Rattle.drive.specs.Plant.{plantOf}
 use Rattle.answers.specs.declared.Answer.{Answer}
 use Rattle.answers.specs.declared.Answer.the-variants as Answers
 use Rattle.answers.specs.declared.Change.{Change}
 use Rattle.answers.specs.declared.Refusal.{Refusal}
 use Rattle.answers.specs.declared.Refusal.the-variants as Refusals
 use Rattle.answers.specs.Answer.{answerNumber}
-use Rattle.service.specs.Serving.{keeping, toldServed, wroteServed}
-use Rattle.service.specs.declared.Served.{Served}
+use Rattle.service.specs.declared.Done.{Done}
+use Rattle.service.specs.Serving.{Served, servedIn, keeping, kept, toldServed, wroteServed}
 use Rattle.service.proofs.Laws.{wrote-keeps}
-use Rattle.modbus.specs.Words.{longAt}
+use Rattle.modbus_words.specs.Words.{longAt}
 use Rattle.modbus.specs.Request.{requestOf}
 use Rattle.modbus.specs.declared.requests.Span.{Span}
 use Rattle.modbus.specs.declared.requests.Request.{Request}
 use Rattle.modbus.specs.declared.requests.Request.the-variants.{Read, One, Many, Malformed, Unknown}
-use Rattle.modbus.specs.declared.answers.Answer as Units
-use Rattle.modbus.specs.declared.answers.Answer.the-variants.{Word, Long, Echo, Exception}
+use Rattle.modbus.specs.declared.replies.Answer as Units
+use Rattle.modbus.specs.declared.replies.Answer.the-variants.{Word, Long, Echo, Exception}
 use Rattle.modbus_service.specs.Serve.{toAll, reachesUs, reading, taskOf, done, served}
-use Rattle.modbus_service.specs.Reply.{headOf, exceptionOf, registersTold, repliedBy, replied, exchanged}
+use Rattle.modbus_service.specs.Reply.{Exchanged, headOf, exceptionOf, registersTold, repliedBy, replied, exchanged}
 use Rattle.modbus_service.specs.declared.Task.{Task}
 use Rattle.modbus_service.specs.declared.Task.the-variants.{Tell, Write, Refuse}
 use Rattle.modbus_service.specs.declared.Head.{Head}
 use Rattle.modbus_service.specs.declared.Reply.{Reply}
 use Rattle.modbus_service.specs.declared.Reply.the-variants.{Nothing, Data}
-use Rattle.modbus_service.specs.declared.Exchange.{Exchange}
 
 -- ---- what a request asks of the plant
 module _ (st a : ℕ) (q : Request) (u : List ℕ) (t : Bool) (reaches : t ≡ reachesUs st a) where
@@ -103,9 +104,9 @@ module _ (p : Plant) (s : ℕ) (t : Task) (r : Served) where
   unfolding done
   done-written row v h e = rw h e
 
-  pub done-refused : (answer : Answer) → t ≡ Refuse answer → r ≡ keeping p s answer → r ≡ done p s t
-  unfolding done
-  done-refused answer h e = rw h e
+pub done-refused : (words : List ℕ) (d : Drive) (s : ℕ) (t : Task) (r : Done) (answer : Answer) → t ≡ Refuse answer → r ≡ kept d s answer → servedIn words r ≡ done (plantOf words d) s t
+unfolding done
+done-refused words d s t r answer h e = rw h (ap (servedIn words) e)
 
 -- an outcome other than 0 changes nothing: "Refusals 2 to 9 change no state but the time sum, 1 and 10 to 14 none"
 done-keeps : (p : Plant) (s : ℕ) (t : Task) → (answerNumber (done p s t .answer) ≡ 0 → ⊥) → done p s t ≡ keeping p s (done p s t .answer)
@@ -146,8 +147,8 @@ module _ (a : ℕ) (h : Head) (x : Answer) (one : a ≡ 0 → ⊥) where
   replied-refused refusal n k e = simp (ne-eqb a 0 one, k, e)
 
 -- ---- a unit and its reply
-pub exchange-is : (p : Plant) (s station a : ℕ) (unit : List ℕ) (q : Request) (t : Task) (x : Served) (h : Head) (y : Reply)
-    → q ≡ requestOf unit → t ≡ taskOf station a q unit → x ≡ done p s t → h ≡ headOf q → y ≡ repliedBy a h (x .answer)
-    → _≡_ {A = Exchange} (record { served = x; reply = y }) (exchanged p s station a unit)
+pub exchange-is : (words : List ℕ) (p : Plant) (s station a : ℕ) (unit : List ℕ) (q : Request) (t : Task) (x : Done) (h : Head) (y : Reply)
+    → q ≡ requestOf unit → t ≡ taskOf station a q unit → servedIn words x ≡ done p s t → h ≡ headOf q → y ≡ repliedBy a h (x .answer)
+    → _≡_ {A = Exchanged} (record { served = servedIn words x; reply = y }) (exchanged p s station a unit)
 unfolding exchanged served replied
-exchange-is p s station a unit q t x h y d e f g k = simp (k, g, f, e, d)
+exchange-is words p s station a unit q t x h y d e f g k = simp (k, g, ← d, ← e) (ap (λ (z : Served). record { served = z; reply = repliedBy a (headOf q) (z .answer) }) f)

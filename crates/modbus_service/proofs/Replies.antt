@@ -16,12 +16,12 @@ use Rattle.answers.specs.declared.Answer.{Answer}
 use Rattle.answers.specs.declared.Answer.the-variants.{Told, Written, NotOurs, Refused}
 use Rattle.answers.specs.declared.Refusal.{Refusal}
 use Rattle.answers.specs.declared.Refusal.the-variants as Refusals
-use Rattle.modbus.specs.Words.{wordAt, longAt}
+use Rattle.modbus_words.specs.Words.{wordAt, longAt}
 use Rattle.modbus.specs.Request.{between, reads, writes, asked, requestOf}
 use Rattle.modbus.specs.declared.requests.Span.{Span}
 use Rattle.modbus.specs.declared.requests.Request.{Request}
 use Rattle.modbus.specs.declared.requests.Request.the-variants.{Read, One, Many, Malformed, Unknown}
-use Rattle.modbus.proofs.Laws.{long-last}
+use Rattle.modbus_words.proofs.Laws.{long-last}
 use Rattle.modbus.proofs.Units.{InWidth}
 use Rattle.modbus_service.specs.Serve.{toAll}
 use Rattle.modbus_service.specs.Reply.{headOf, exceptionOf, registersTold, answered, repliedBy, replied}

@@ -7,7 +7,7 @@ use Rattle.base.specs.Buffers.{front}
 use Rattle.base.proofs.Sets.{front-none}
 use Rattle.modbus.specs.Answer.{unitOf}
 use Rattle.modbus.specs.Reply.{replyIn}
-use Rattle.modbus.specs.declared.answers.Answer.{Answer}
+use Rattle.modbus.specs.declared.replies.Answer.{Answer}
 use Rattle.modbus.proofs.Buffers.{reply-all}
 use Rattle.modbus_service.specs.Reply.{sentBy}
 use Rattle.modbus_service.specs.declared.Reply.{Reply}

@@ -7,7 +7,7 @@ use Rattle.table.specs.Address.{address, firstRegister}
 use Rattle.table.specs.Find.{firstRow, rowOfSpan}
 use Rattle.allowed.specs.Allowed.{twos, within, allows, allowedAt}
 use Rattle.drive.specs.declared.plant.Plant.{Plant}
-use Rattle.drive.specs.Plant.{started}
+use Rattle.drive.specs.Plant.{withDrive, started}
 use Rattle.drive.specs.Flags.{flagged, lowestFrom, lowestOf}
 use Rattle.drive.specs.Faults.{flagStands, statusOf, flagRaised, acknowledged}
 use Rattle.drive.specs.Events.{isFault, raised, ended}
@@ -17,25 +17,24 @@ use Rattle.permit.specs.Refusals.{readOnly, boundsOf, allowed, held, permitted}
 use Rattle.permit.specs.Permit.{permitOf}
 use Rattle.writing.specs.Write.{stored, applied, written}
 use Rattle.service.specs.Serving.{toldServed, wroteServed}
-use Rattle.modbus.specs.Words.{wordAt, longAt}
+use Rattle.modbus_words.specs.Words.{wordAt, longAt}
 use Rattle.modbus.specs.Request.{label, reads, writes, asked, requestOf}
-use Rattle.modbus.specs.declared.answers.Answer.the-variants.{Word, Long, Echo, Exception}
+use Rattle.modbus.specs.declared.replies.Answer.the-variants.{Word, Long, Echo, Exception}
 use Rattle.modbus_service.specs.Serve.{reachesUs, taskOf, done, served}
-use Rattle.modbus_service.specs.Reply.{registersTold, repliedBy, replied, exchanged}
+use Rattle.modbus_service.specs.Reply.{Exchanged, registersTold, repliedBy, replied, exchanged}
 use Rattle.modbus_service.specs.declared.Reply.{Reply}
 use Rattle.modbus_service.specs.declared.Reply.the-variants.{Nothing, Data}
-use Rattle.modbus_service.specs.declared.Exchange.{Exchange}
 
 -- fault 5 was raised, and its cause has ended: flag 5, of mask 20h, still stands
 abbrev over : Plant
-over = ended 5 (raised 5 started .plant) .plant
+over = withDrive (ended 5 (raised 5 (started .drive) .drive) .drive) started
 
 -- the outcome's number, the flags then, the reply
 abbrev Result : Type 0
 Result = ℕ × ℕ × Reply
 
-abbrev result : Exchange → Result
-result e = (answerNumber (e .served .answer), e .served .plant .flags, e .reply)
+abbrev result : Exchanged → Result
+result e = (answerNumber (e .served .answer), e .served .plant .drive .flags, e .reply)
 
 -- a plant, an address and a unit, and what they come to
 abbrev pub cases : List ((Plant × ℕ × List ℕ) × Result)

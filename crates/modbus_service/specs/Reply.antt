@@ -11,12 +11,13 @@ use Rattle.answers.specs.declared.Answer.{Answer}
 use Rattle.answers.specs.declared.Answer.the-variants.{Told, Written, NotOurs, Refused}
 use Rattle.answers.specs.declared.Refusal.{Refusal}
 use Rattle.answers.specs.declared.Refusal.the-variants as Refusals
+use Rattle.service.specs.Serving.{Served, servedIn}
 use Rattle.modbus.specs.Answer.{unitOf}
 use Rattle.modbus.specs.Request.{label, requestOf}
 use Rattle.modbus.specs.declared.requests.Request.{Request}
 use Rattle.modbus.specs.declared.requests.Request.the-variants.{Read, One, Many, Malformed, Unknown}
-use Rattle.modbus.specs.declared.answers.Answer as Units
-use Rattle.modbus.specs.declared.answers.Answer.the-variants.{Word, Long, Echo, Exception}
+use Rattle.modbus.specs.declared.replies.Answer as Units
+use Rattle.modbus.specs.declared.replies.Answer.the-variants.{Word, Long, Echo, Exception}
 use Rattle.modbus_service.specs.Serve.{toAll, served}
 use Rattle.modbus_service.specs.declared.Head.{Head}
 use Rattle.modbus_service.specs.declared.Reply.{Reply}
@@ -64,7 +65,15 @@ unfoldable pub replied : (address : ℕ) → List ℕ → Answer → Reply
 replied address unit answer = repliedBy address (headOf (requestOf unit)) answer
 
 -- what a unit comes to, and its reply
-unfoldable pub exchanged : Plant → ℕ → (station address : ℕ) → List ℕ → Exchange
+pub record Exchanged : Type 0 where
+  pub served : Served
+  pub reply : Reply
+
+-- what the code hands back, with the settings that it was lent
+abbrev pub exchangedIn : List ℕ → Exchange → Exchanged
+exchangedIn words e = record { served = servedIn words (e .done); reply = e .reply }
+
+unfoldable pub exchanged : Plant → ℕ → (station address : ℕ) → List ℕ → Exchanged
 exchanged p sioerr station address unit =
     record {
       served = served p sioerr station address unit;

@@ -16,9 +16,8 @@ use Rattle.answers.specs.declared.Answer.the-variants as Answers
 use Rattle.answers.specs.declared.Refusal.the-variants as Refusals
 use Rattle.answers.specs.Answer.{answerNumber}
 use Rattle.permit.specs.Refusals.{readLine, writeLines}
-use Rattle.service.specs.Serving.{isNone, theRow, keeping, toldServed, wroteServed}
-use Rattle.service.specs.declared.Served.{Served}
-use Rattle.modbus.specs.Words.{longAt}
+use Rattle.service.specs.Serving.{Served, isNone, theRow, keeping, toldServed, wroteServed}
+use Rattle.modbus_words.specs.Words.{longAt}
 use Rattle.modbus.specs.Request.{requestOf}
 use Rattle.modbus.specs.declared.requests.Request.{Request}
 use Rattle.modbus.specs.declared.requests.Request.the-variants.{Read, One, Many, Malformed, Unknown}

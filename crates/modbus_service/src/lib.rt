@@ -1,18 +1,20 @@
 // A data unit of Modbus, served by the plant, for RTU and ASCII alike: the order of refusals, what is done, and what is replied.
 //
-// `serve` takes a unit and the address before it; the reply that it hands back is for the writer of the frame or of the message.
+// `serve` takes a unit and the address before it, is lent the settings and hands back the drive; the reply that it hands back is for the writer of the frame or of the message.
 use answers::Answer;
 use answers::Refusal;
-use drive::Plant;
+use drive::Drive;
 use modbus::Request;
-use service::Served;
+use service::Done;
 use table::Found;
 use table::Register;
 use table::Row;
 ghost use mathlib.Core.Path.{_≡_};
 ghost use Rattle.base.specs.Choice.{both};
+ghost use Rattle.drive.specs.Plant.{plantOf};
+ghost use Rattle.service.specs.Serving.{servedIn};
 ghost use Rattle.modbus_service.specs.Serve.{toAll, reachesUs, reading, taskOf, done};
-ghost use Rattle.modbus_service.specs.Reply.{headOf, exceptionOf, registersTold, repliedBy, exchanged};
+ghost use Rattle.modbus_service.specs.Reply.{headOf, exceptionOf, registersTold, repliedBy, exchangedIn, exchanged};
 
 // What a unit asks of the plant: a row is to tell its word, or to hold a value; or nothing, for this reason.
 enum Task {
@@ -36,21 +38,28 @@ pub enum Reply {
 
 // What a unit came to, and its reply.
 pub struct Exchange {
-    pub served: Served,
+    pub done: Done,
     pub reply: Reply,
 }
 
 // Serves a data unit that came behind an address: 03 and 04 tell a row, 06 and 16 write one. A refusal changes nothing. `station` is our own
 // address.
-pub fn serve(plant: Plant, sioerr: u32, station: u32, address: u8, unit: &[u8]) -> Exchange
-    ensures { λ r. ⌜ r ≡ exchanged plant sioerr station address (now (unit .entry)) ⌝ }
+pub fn serve(
+    settings: &mut [u32; 22],
+    drive: Drive,
+    sioerr: u32,
+    station: u32,
+    address: u8,
+    unit: &[u8],
+) -> Exchange
+    ensures { λ r. ⌜ exchangedIn (now (settings .exit)) r ≡ exchanged (plantOf (now (settings .entry)) drive) sioerr station address (now (unit .entry)) ⌝ }
 {
     let request = modbus::request_of(unit);
     let task = task_of(station, address, request, unit);
-    let served = do_task(plant, sioerr, task);
-    let answer = served.answer;
+    let done = do_task(settings, drive, sioerr, task);
+    let answer = done.answer;
     let reply = reply_to(address, head_of(request), answer);
-    Exchange { served, reply }
+    Exchange { done, reply }
 }
 
 // Whether the address is ours or broadcast.
@@ -90,7 +99,7 @@ fn task_of(station: u32, address: u8, request: Request, unit: &[u8]) -> Task
             let Found::At(row) = first.span(count) else {
                 return Task::Refuse(Answer::Refused(Refusal::NoRow));
             };
-            Task::Write(row, modbus::long_at(unit, place.from))
+            Task::Write(row, modbus_words::long_at(unit, place.from))
         }
         Request::Malformed(function) => {
             if broadcast_read(address, function) {
@@ -116,13 +125,13 @@ fn broadcast_read(address: u8, function: u8) -> bool
 }
 
 // The row is told or written, with refusals 3 to 7; or nothing changes.
-fn do_task(plant: Plant, sioerr: u32, task: Task) -> Served
-    ensures { λ r. ⌜ r ≡ done plant sioerr task ⌝ }
+fn do_task(settings: &mut [u32; 22], drive: Drive, sioerr: u32, task: Task) -> Done
+    ensures { λ r. ⌜ servedIn (now (settings .exit)) r ≡ done (plantOf (now (settings .entry)) drive) sioerr task ⌝ }
 {
     match task {
-        Task::Tell(row) => service::tell(plant, sioerr, row),
-        Task::Write(row, value) => service::write(plant, sioerr, row, value),
-        Task::Refuse(answer) => service::keep(plant, sioerr, answer),
+        Task::Tell(row) => service::tell(settings, drive, sioerr, row),
+        Task::Write(row, value) => service::write(settings, drive, sioerr, row, value),
+        Task::Refuse(answer) => service::keep(drive, sioerr, answer),
     }
 }
 

@@ -5,14 +5,13 @@ use mathlib.Core.List.{List, [], map}
 use Prim.Native.Nat.{ℕ}
 use Rattle.stream.specs.Reading.{Yield}
 use Rattle.stream.specs.Automaton.{feed, feedAll}
-use Rattle.hex.specs.Hex.{digitValue, digitOf, pairValue, hexOf}
+use Rattle.hex.specs.Hex.{digitValue, pairValue}
 use Rattle.checks.specs.Bcc.{bccOf}
 use Rattle.nfo.specs.Shape.{whole, part}
 use Rattle.nfo.specs.Message.{enquiry, select, bccIn, formed, viable, nfo}
-use Rattle.nfo.specs.Parts.{valueAt, parameterAt, messageOf}
-use Rattle.nfo.specs.Replies.{digitsOf, bodyOf, replyOf, ackOf, nakOf}
-use Rattle.nfo.specs.Cases.{streams, messages, replies}
-use Rattle.nfo.specs.declared.message.Message.{Message}
+use Rattle.nfo_parts.specs.Parts.{valueAt, parameterAt, messageOf}
+use Rattle.nfo.specs.Cases.{streams, messages}
+use Rattle.nfo_parts.specs.declared.message.Message.{Message}
 
 pub streams-fed : map (λ (t : List ℕ × Yield). feedAll nfo 0 [] (t .0)) streams ≡ map (λ (t : List ℕ × Yield). t .1) streams
 unfolding feedAll feed formed viable bccIn bccOf enquiry select whole part
@@ -28,7 +27,3 @@ told t = (true, t .1)
 pub messages-parted : map seen messages ≡ map told messages
 unfolding formed bccIn bccOf enquiry select whole messageOf parameterAt valueAt pairValue digitValue
 messages-parted = refl
-
-pub replies-written : map (λ (t : List ℕ × List ℕ). t .0) replies ≡ map (λ (t : List ℕ × List ℕ). t .1) replies
-unfolding replyOf bodyOf digitsOf hexOf digitOf bccOf ackOf nakOf
-replies-written = refl

@@ -7,5 +7,5 @@ pub mod Step
 pub mod Turns
 pub mod Beginning
 pub mod Follows
-pub mod Parsed
-pub mod Written
+pub mod Alone
+pub mod Formed

@@ -1,14 +1,12 @@
--- Document 01's cases, as far as they are NFO serial alone: streams and what their reading yields, messages and their parts, and replies.
--- Assumes nothing.
+-- Document 01's cases, as far as they are NFO serial alone: streams and what their reading yields, messages and their parts. Assumes nothing.
 use mathlib.Core.List.{List, [], _∷_, _++_}
 use Prim.Native.Nat.{ℕ}
 use Rattle.stream.specs.Reading.{Yield, waiting, taking}
-use Rattle.nfo.specs.Replies.{replyOf, ackOf, nakOf}
-use Rattle.nfo.specs.declared.message.Value.the-variants.{Word, NotHex}
-use Rattle.nfo.specs.declared.message.Parameter.{Parameter}
-use Rattle.nfo.specs.declared.message.Parameter.the-variants.{Number, NoNumber}
-use Rattle.nfo.specs.declared.message.Message.{Message}
-use Rattle.nfo.specs.declared.message.Message.the-variants.{Enquiry, Select}
+use Rattle.nfo_parts.specs.declared.message.Value.the-variants.{Word, NotHex}
+use Rattle.nfo_parts.specs.declared.message.Parameter.{Parameter}
+use Rattle.nfo_parts.specs.declared.message.Parameter.the-variants.{Number, NoNumber}
+use Rattle.nfo_parts.specs.declared.message.Message.{Message}
+use Rattle.nfo_parts.specs.declared.message.Message.the-variants.{Enquiry, Select}
 
 -- SELECT Accel, up to its value; then the value's last two digits, 03, and a BCC
 abbrev pub accel : List ℕ → List ℕ
@@ -68,16 +66,4 @@ messages =
     -- "an unknown parameter or non-hex value is still well-formed": `F001D`, and `00a9`
     ∷ (0x04 ∷ 0x21 ∷ 0x46 ∷ 0x30 ∷ 0x30 ∷ 0x31 ∷ 0x44 ∷ 0x05 ∷ [], Enquiry 0x21 NoNumber)
     ∷ (accel (0x61 ∷ 0x39 ∷ 0x03 ∷ 0x56 ∷ []), Select 0x21 (E 0x001D) NotHex)
-    ∷ []
-
--- ---- replies, and their bytes
-abbrev pub replies : List (List ℕ × List ℕ)
-replies =
-    -- case 2: Accel is 50
-    (replyOf 0x21 0x001D 50, 0x21 ∷ 0x02 ∷ 0x45 ∷ 0x30 ∷ 0x30 ∷ 0x31 ∷ 0x44 ∷ 0x3D ∷ 0x30 ∷ 0x30 ∷ 0x33 ∷ 0x32 ∷ 0x03 ∷ 0x0F ∷ [])
-    -- case 9: Accel is 0093h
-    ∷ (replyOf 0x21 0x001D 0x0093, 0x21 ∷ 0x02 ∷ 0x45 ∷ 0x30 ∷ 0x30 ∷ 0x31 ∷ 0x44 ∷ 0x3D ∷ 0x30 ∷ 0x30 ∷ 0x39 ∷ 0x33 ∷ 0x03 ∷ 0x04 ∷ [])
-    -- cases 1 and 3
-    ∷ (nakOf 0x21, 0x21 ∷ 0x15 ∷ [])
-    ∷ (ackOf 0x21, 0x21 ∷ 0x06 ∷ [])
     ∷ []

@@ -1,15 +1,15 @@
 // Scanning a scrap for the first message.
-use pending::Pending;
-use pending::Scan;
+use pending::Scanned;
 use pending::push;
 use pending::restart;
 ghost use mathlib.Core.Path.{_≡_};
-ghost use lib.Dec.{ltb};
-ghost use Rattle.base.specs.Choice.{pick};
-ghost use Rattle.pending.specs.Scanning.{scanFrom};
+ghost use lib.Dec.{eqb};
+ghost use Rattle.base.specs.Choice.{pick, both, either};
+ghost use Rattle.pending.specs.Scanning.{scanFrom, scanIn};
 ghost use Rattle.nfo.specs.Shape.{text, fits};
-ghost use Rattle.nfo.specs.Message.{enquiry, select, bccIn};
-ghost use Rattle.nfo.specs.Scan.{fitsAt, stepOf, again, ends, fed, feeding};
+ghost use Rattle.nfo.specs.Message.{bccIn};
+ghost use Rattle.nfo.specs.Scan.{stepOf, again, ends, fed, feeding};
+ghost use Rattle.nfo.specs.declared.scanning.Step.the-variants.{Keeps, Ends, Checks, Spoils};
 
 // What a byte does to what is pending.
 pub enum Step {
@@ -29,37 +29,31 @@ struct Fed {
     taken: bool,
 }
 
-// Scans for the first message: uses the bytes up to its end, or all. A byte is tested once, at its place.
+// Scans for the first message: uses the bytes up to its end, or all. A byte is tested once, at its place. The bytes pending are the first `len` of
+// `held`, and stay there.
 //
 // What is pending is taken for a beginning: of its bytes only the one at place 2 is looked at again, and at the end of a SELECT those
 // that the BCC is made of. Bits that are no beginning are taken for one too, by their count and that byte; where they are more than
 // the shape has, the next byte drops them.
-pub fn scan(pending: Pending, bytes: &[u8]) -> Scan
-    ensures { λ r. ⌜ r ≡ scanFrom feeding pending 0 (now (bytes .entry)) ⌝ }
+pub fn scan(held: &mut [u8; 512], len: usize, bytes: &[u8]) -> Scanned
+    ensures { λ r. ⌜ scanIn (now (held .exit)) r ≡ scanFrom feeding (record { bytes = now (held .entry); len = len }) 0 (now (bytes .entry)) ⌝ }
 {
-    let mut held = pending.bytes;
-    let mut n = pending.len;
+    let mut n = len;
     let mut i: usize = 0;
     while i < bytes.len() {
-        let f = feed(&mut held, n, bytes[i]);
+        let f = feed(held, n, bytes[i]);
         n = f.len;
         i += 1;
         if f.taken {
-            return Scan {
-                pending: Pending {
-                    bytes: held,
-                    len: n,
-                },
+            return Scanned {
+                len: n,
                 used: i,
                 taken: true,
             };
         }
     }
-    Scan {
-        pending: Pending {
-            bytes: held,
-            len: n,
-        },
+    Scanned {
+        len: n,
         used: bytes.len(),
         taken: false,
     }
@@ -118,63 +112,74 @@ fn bcc_in(held: &[u8; 512]) -> u8
 }
 
 // What `b` does at place `n`. The byte at place 2 tells the shape: 02 stands there in a SELECT.
+//
+// place:    0  1   2  3     6 7  8  9    12 13 14
+// ENQUIRY:  04 ADR p  p p p p 05
+// SELECT:   04 ADR 02 p p p p p  3D v v v v 03 BCC
 fn next_step(n: usize, third: u8, b: u8) -> Step
     ensures { λ r. ⌜ r ≡ stepOf n third b ⌝ }
 {
-    if telling(n, third, b) == 0x02 {
-        if fits_select(n, b) {
-            if n == 14 {
-                return Step::Checks;
-            }
-            return Step::Keeps;
-        }
-        return Step::Spoils;
+    match n {
+        0 => keeps(b == 0x04),
+        1 => keeps(is_text(b)),
+        2 => keeps(is_third(b)),
+        3..=6 => keeps(is_text(b)),
+        7 => step_at_7(third, b),
+        8 => select_keeps(third, b == 0x3D),
+        9..=12 => select_keeps(third, is_text(b)),
+        13 => select_keeps(third, b == 0x03),
+        _ => last_step(n, third),
     }
-    if fits_enquiry(n, b) {
-        if n == 7 {
-            return Step::Ends;
-        }
-        return Step::Keeps;
+}
+
+// A byte that is not the last goes on where it is the right one.
+fn keeps(right: bool) -> Step
+    ensures { λ r. ⌜ r ≡ pick right Keeps Spoils ⌝ }
+{
+    if right { Step::Keeps } else { Step::Spoils }
+}
+
+// Behind the end of an ENQUIRY only a SELECT goes on.
+fn select_keeps(third: u8, right: bool) -> Step
+    ensures { λ r. ⌜ r ≡ pick (both (eqb third 0x02) right) Keeps Spoils ⌝ }
+{
+    if third == 0x02 {
+        return keeps(right);
     }
     Step::Spoils
 }
 
-// The byte at place 2, which may be the one that comes. Before place 2 the shapes do not differ, and any byte will do.
-fn telling(n: usize, third: u8, b: u8) -> u8
-    ensures { λ r. ⌜ r ≡ pick (ltb 2 n) third b ⌝ }
+// Place 7: the last of an ENQUIRY is 05; a SELECT has the end of its parameter there.
+fn step_at_7(third: u8, b: u8) -> Step
+    ensures { λ r. ⌜ r ≡ pick (eqb third 0x02) (pick (fits text b) Keeps Spoils) (pick (eqb b 0x05) Ends Spoils) ⌝ }
 {
-    if 2 < n { third } else { b }
+    if third == 0x02 {
+        return keeps(is_text(b));
+    }
+    if b == 0x05 { Step::Ends } else { Step::Spoils }
 }
 
-// place:    0  1   2       6 7
-// ENQUIRY:  04 ADR p p p p p 05
-fn fits_enquiry(n: usize, b: u8) -> bool
-    ensures { λ r. ⌜ r ≡ fitsAt enquiry n b ⌝ }
+// Place 14: the BCC of a SELECT. No shape goes on behind it.
+fn last_step(n: usize, third: u8) -> Step
+    ensures { λ r. ⌜ r ≡ pick (both (eqb third 0x02) (eqb n 14)) Checks Spoils ⌝ }
 {
-    match n {
-        0 => b == 0x04,
-        1..=6 => is_text(b),
-        7 => b == 0x05,
-        _ => false,
+    if third == 0x02 {
+        if n == 14 {
+            return Step::Checks;
+        }
+        return Step::Spoils;
     }
+    Step::Spoils
 }
 
-// place:   0  1   2  3       7 8  9    12 13 14
-// SELECT:  04 ADR 02 p p p p p 3D v v v v 03 BCC
-fn fits_select(n: usize, b: u8) -> bool
-    ensures { λ r. ⌜ r ≡ fitsAt select n b ⌝ }
+// Place 2: 02 of a SELECT, or text of an ENQUIRY.
+fn is_third(b: u8) -> bool
+    ensures { λ r. ⌜ r ≡ either (eqb b 0x02) (fits text b) ⌝ }
 {
-    match n {
-        0 => b == 0x04,
-        1 => is_text(b),
-        2 => b == 0x02,
-        3..=7 => is_text(b),
-        8 => b == 0x3D,
-        9..=12 => is_text(b),
-        13 => b == 0x03,
-        14 => true,
-        _ => false,
+    if b == 0x02 {
+        return true;
     }
+    is_text(b)
 }
 
 // 20h to 7Fh

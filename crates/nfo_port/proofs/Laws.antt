@@ -8,22 +8,26 @@ use lib.ListN.{length}
 use Rattle.base.specs.Buffers.{front, fitting}
 use Rattle.base.proofs.Sets.{fitting-all}
 use Rattle.base.proofs.Tests.{pick-both}
-use Rattle.pending.specs.declared.Scan.{Scan}
-use Rattle.nfo.specs.declared.message.Message.{Message}
-use Rattle.nfo.specs.Parts.{messageOf}
-use Rattle.nfo.specs.Replies.{ackOf, nakOf}
-use Rattle.nfo.proofs.Written.{reply-length}
-use Rattle.service.specs.declared.Served.{Served}
+use Rattle.nfo_parts.specs.declared.message.Message.{Message}
+use Rattle.nfo_parts.specs.Parts.{messageOf}
+use Rattle.nfo_parts.specs.Replies.{ackOf, nakOf}
+use Rattle.nfo_parts.proofs.Written.{reply-length}
+use Rattle.drive.specs.Plant.{plantOf}
+use Rattle.service.specs.Serving.{servedIn}
+use Rattle.service.specs.declared.Done.{Done}
 use Rattle.nfo_service.specs.Serve as Serve
 use Rattle.nfo_service.specs.Reply.{adrIn, parameterIn, numberOf, repliedBy, replied}
 use Rattle.answers.specs.declared.Answer.{Answer}
 use Rattle.answers.specs.declared.Answer.the-variants.{Told, Written, NotOurs, Refused}
 use Rattle.card.specs.declared.state.Card.{Card}
 use Rattle.card.specs.declared.outcome.Outcome.the-variants as Outcomes
-use Rattle.turn.specs.Turn.{cardAfter}
+use Rattle.turn.specs.Core.{cardOf, turnIn, coreAfter}
+use Rattle.turn.specs.declared.Core.{Core}
 use Rattle.turn.specs.Stream.{taken}
-use Rattle.turn.proofs.Laws.{Does, streamed-used, streamed-uses, streamed-short}
+use Rattle.turn.proofs.Laws.{Does, after-in, streamed-used, streamed-uses, streamed-short}
 use Rattle.nfo_port.specs.Receive.{nfoStream, nfoReceived}
+use Rattle.pending.specs.Scanning.{scanIn}
+use Rattle.pending.specs.declared.Scanned.{Scanned}
 
 -- ---- a reply has 14 bytes at most
 by-short : (adr e : ℕ) (a : Answer) → length (repliedBy adr e a) ≤ 14
@@ -37,19 +41,20 @@ pub reply-short : (m : Message) (a : Answer) → length (replied m a) ≤ 14
 unfolding replied
 reply-short m a = pick-both (λ (b : List ℕ). length b ≤ 14) (eqb (adrIn m) 0x7F) (λ _. omega arith) (λ _. by-short (adrIn m) (numberOf (parameterIn m)) a)
 
--- ---- a message is taken
-module _ (c after : Card) (scan : Scan) (m : Message) (s : Served) (n : ℕ) (out before : List ℕ) (room : 19 ≤ length before)
-    (parts : m ≡ messageOf (scan .pending .bytes)) (serves : s ≡ Serve.served (c .plant) (c .port .sioerr) m)
-    (puts : (n ≡ length (fitting (replied m (s .answer)) (length before))) × (out ≡ front (fitting (replied m (s .answer)) (length before)) before))
-    (leaves : after ≡ cardAfter c (scan .pending) s) where
-  whole : fitting (replied m (s .answer)) (length before) ≡ replied m (s .answer)
-  whole = fitting-all (replied m (s .answer)) (length before) (omega (arith, reply-short m (s .answer)))
+-- ---- a message is taken: the arrays `held`, `words` are lent, and `words′` are the settings then
+module _ (held words words′ : List ℕ) (k after : Core) (scan : Scanned) (m : Message) (d : Done) (n : ℕ) (out before : List ℕ) (room : 19 ≤ length before)
+    (parts : m ≡ messageOf held) (serves : servedIn words′ d ≡ Serve.served (plantOf words (k .drive)) (k .sioerr) m)
+    (puts : (n ≡ length (fitting (replied m (d .answer)) (length before))) × (out ≡ front (fitting (replied m (d .answer)) (length before)) before))
+    (leaves : after ≡ coreAfter k d) where
+  whole : fitting (replied m (d .answer)) (length before) ≡ replied m (d .answer)
+  whole = fitting-all (replied m (d .answer)) (length before) (omega (arith, reply-short m (d .answer)))
 
-  pub takes : Does (record { card = after; outcome = Outcomes.Served (s .answer); used = scan .used; len = n }) out (taken nfoStream c scan) before
+  pub takes : Does (turnIn held words′ (record { core = after; outcome = Outcomes.Served (d .answer); used = scan .used; len = n })) out
+      (taken nfoStream (cardOf held words k) (scanIn held scan)) before
   takes =
-      let count : n ≡ length (replied m (s .answer)) = rw whole at (puts .0) in
-      let lent : out ≡ front (replied m (s .answer)) before = rw whole at (puts .1) in
-      rw (← parts, ← serves, count, leaves) (refl, lent)
+      let count : n ≡ length (replied m (d .answer)) = rw whole at (puts .0) in
+      let lent : out ≡ front (replied m (d .answer)) before = rw whole at (puts .1) in
+      rw (← parts, ← serves, count, leaves, after-in held words held words′ (scan .len) k d) (refl, lent)
 
 -- ---- what a caller may count on: the bytes used are there, one at least is used, and a reply has 14 bytes at most
 module _ (c : Card) (bytes : List ℕ) (room : ℕ) where

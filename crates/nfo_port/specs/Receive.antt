@@ -1,10 +1,10 @@
 -- A call on bytes of NFO serial: the stream call of its messages. Assumes nothing.
 use mathlib.Core.List.{List}
 use Prim.Native.Nat.{ℕ}
-use Rattle.nfo.specs.declared.message.Message.{Message}
-use Rattle.nfo.specs.Parts.{messageOf}
+use Rattle.nfo_parts.specs.declared.message.Message.{Message}
+use Rattle.nfo_parts.specs.Parts.{messageOf}
 use Rattle.nfo.specs.Scan.{feeding}
-use Rattle.service.specs.declared.Served.{Served}
+use Rattle.service.specs.Serving.{Served}
 use Rattle.nfo_service.specs.Serve as Serve
 use Rattle.nfo_service.specs.Reply.{replied}
 use Rattle.card.specs.declared.state.Card.{Card}

@@ -1,5 +1,5 @@
 -- Serving a message, case by case: what the tests and the callees told, and the case of the definition. Assumes nothing.
-use mathlib.Core.Path.{_≡_, refl, sym, _∙_}
+use mathlib.Core.Path.{_≡_, refl, sym, ap, _∙_}
 use mathlib.Core.Bool.{Bool, true, false, not}
 use mathlib.Core.List.{List, []}
 use Prim.Native.Nat.{ℕ, zero-le}
@@ -10,66 +10,80 @@ use Rattle.base.proofs.Sets.{front-none}
 use Rattle.table.specs.declared.labels.Row.{Row}
 use Rattle.table.specs.declared.labels.Found.{Found}
 use Rattle.table.specs.declared.labels.Found.the-variants.{At, NoRow}
-use Rattle.nfo.specs.declared.message.Parameter.{Parameter}
-use Rattle.nfo.specs.declared.message.Value.{Value}
-use Rattle.nfo.specs.declared.message.Value.the-variants.{Word, NotHex}
+use Rattle.nfo_parts.specs.declared.message.Message.{Message}
+use Rattle.nfo_parts.specs.declared.message.Message.the-variants.{Enquiry, Select}
+use Rattle.nfo_parts.specs.declared.message.Parameter.{Parameter}
+use Rattle.nfo_parts.specs.declared.message.Value.{Value}
+use Rattle.nfo_parts.specs.declared.message.Value.the-variants.{Word, NotHex}
+use Rattle.drive.specs.declared.plant.Drive.{Drive}
 use Rattle.drive.specs.declared.plant.Plant.{Plant}
+use Rattle.drive.specs.Plant.{plantOf}
 use Rattle.answers.specs.declared.Answer.the-variants as Answers
 use Rattle.answers.specs.declared.Refusal.the-variants as Refusals
 use Rattle.drive.specs.Faults.{stopped}
 use Rattle.permit.specs.Refusals.{readOnly}
-use Rattle.service.specs.Serving.{keeping, toldServed, wroteServed}
-use Rattle.service.specs.declared.Served.{Served}
-use Rattle.nfo_service.specs.Serve.{toUs, reachesUs, rowNamed, stops, rowSelected, selectServed, enquiryServed}
+use Rattle.service.specs.declared.Done.{Done}
+use Rattle.service.specs.Serving.{Served, servedIn, kept, toldServed, wroteServed}
+use Rattle.nfo_service.specs.Serve.{toUs, reachesUs, rowNamed, stops, rowSelected, selectServed, enquiryServed, served}
 use Rattle.nfo_service.specs.Reply.{adrIn, parameterIn, numberOf, repliedBy, replied}
-use Rattle.nfo.specs.declared.message.Message.{Message}
 use Rattle.answers.specs.declared.Answer.{Answer}
 
-module _ (p : Plant) (s adr : ℕ) (q : Parameter) (t : Bool) (r : Served) where
-  -- ---- an ENQUIRY
-  pub enquiry-other : t ≡ toUs p adr → not t ≡ true → r ≡ keeping p s Answers.NotOurs → r ≡ enquiryServed p s adr q
+-- ---- an ENQUIRY
+module _ (words : List ℕ) (d : Drive) (s adr : ℕ) (q : Parameter) (t : Bool) (ours : t ≡ toUs (record { words = words }) adr) where
+  pub enquiry-other : (r : Done) → not t ≡ true → r ≡ kept d s Answers.NotOurs → servedIn words r ≡ enquiryServed (plantOf words d) s adr q
   unfolding enquiryServed
-  enquiry-other d h e = simp (sym d ∙ not-true t h) e
+  enquiry-other r h e = simp (sym ours ∙ not-true t h) (ap (servedIn words) e)
 
-  pub enquiry-none : (g : Found) → t ≡ toUs p adr → not t ≡ false → g ≡ rowNamed q → g ≡ NoRow → r ≡ keeping p s (Answers.Refused Refusals.NoRow) → r ≡ enquiryServed p s adr q
+  pub enquiry-none : (r : Done) (g : Found) → not t ≡ false → g ≡ rowNamed q → g ≡ NoRow → r ≡ kept d s (Answers.Refused Refusals.NoRow) → servedIn words r ≡ enquiryServed (plantOf words d) s adr q
   unfolding enquiryServed
-  enquiry-none g d h f n e = simp (sym d ∙ not-false t h, sym f ∙ n) e
+  enquiry-none r g h f n e = simp (sym ours ∙ not-false t h, sym f ∙ n) (ap (servedIn words) e)
 
-  pub enquiry-told : (g : Found) (row : Row) → t ≡ toUs p adr → not t ≡ false → g ≡ rowNamed q → g ≡ At row → r ≡ toldServed p s row → r ≡ enquiryServed p s adr q
+  pub enquiry-told : (r : Served) (g : Found) (row : Row) → not t ≡ false → g ≡ rowNamed q → g ≡ At row → r ≡ toldServed (plantOf words d) s row → r ≡ enquiryServed (plantOf words d) s adr q
   unfolding enquiryServed
-  enquiry-told g row d h f n e = simp (sym d ∙ not-false t h, sym f ∙ n) e
+  enquiry-told r g row h f n e = simp (sym ours ∙ not-false t h, sym f ∙ n) e
 
-  -- ---- a SELECT
-  pub select-other : (v : Value) → t ≡ reachesUs p adr → not t ≡ true → r ≡ keeping p s Answers.NotOurs → r ≡ selectServed p s adr q v
+-- ---- a SELECT
+module _ (words : List ℕ) (d : Drive) (s adr : ℕ) (q : Parameter) (v : Value) (t : Bool) (ours : t ≡ reachesUs (record { words = words }) adr) where
+  pub select-other : (r : Done) → not t ≡ true → r ≡ kept d s Answers.NotOurs → servedIn words r ≡ selectServed (plantOf words d) s adr q v
   unfolding selectServed
-  select-other v d h e = simp (sym d ∙ not-true t h) e
+  select-other r h e = simp (sym ours ∙ not-true t h) (ap (servedIn words) e)
 
-  pub select-none : (v : Value) (g : Found) → t ≡ reachesUs p adr → not t ≡ false → g ≡ rowNamed q → g ≡ NoRow → r ≡ keeping p s (Answers.Refused Refusals.NoRow) → r ≡ selectServed p s adr q v
+  pub select-none : (r : Done) (g : Found) → not t ≡ false → g ≡ rowNamed q → g ≡ NoRow → r ≡ kept d s (Answers.Refused Refusals.NoRow) → servedIn words r ≡ selectServed (plantOf words d) s adr q v
   unfolding selectServed
-  select-none v g d h f n e = simp (sym d ∙ not-false t h, sym f ∙ n) e
+  select-none r g h f n e = simp (sym ours ∙ not-false t h, sym f ∙ n) (ap (servedIn words) e)
 
-  pub select-found : (v : Value) (g : Found) (row : Row) → t ≡ reachesUs p adr → not t ≡ false → g ≡ rowNamed q → g ≡ At row → r ≡ rowSelected p s adr row v → r ≡ selectServed p s adr q v
+  pub select-found : (r : Served) (g : Found) (row : Row) → not t ≡ false → g ≡ rowNamed q → g ≡ At row → r ≡ rowSelected (plantOf words d) s adr row v → r ≡ selectServed (plantOf words d) s adr q v
   unfolding selectServed
-  select-found v g row d h f n e = simp (sym d ∙ not-false t h, sym f ∙ n) e
+  select-found r g row h f n e = simp (sym ours ∙ not-false t h, sym f ∙ n) e
 
 -- ---- a SELECT of a row that there is
-module _ (p : Plant) (s adr : ℕ) (row : Row) (v : Value) (t : Bool) where
-  pub row-read-only : (r : Served) → t ≡ readOnly (row .0) → t ≡ true → r ≡ keeping p s (Answers.Refused Refusals.ReadOnly) → r ≡ rowSelected p s adr row v
+module _ (words : List ℕ) (d : Drive) (s adr : ℕ) (row : Row) (v : Value) (t : Bool) (reads : t ≡ readOnly (row .0)) where
+  pub row-read-only : (r : Done) → t ≡ true → r ≡ kept d s (Answers.Refused Refusals.ReadOnly) → servedIn words r ≡ rowSelected (plantOf words d) s adr row v
   unfolding rowSelected
-  row-read-only r d h e = simp (sym d ∙ h) e
+  row-read-only r h e = simp (sym reads ∙ h) (ap (servedIn words) e)
 
-  pub row-not-hex : (r : Served) → t ≡ readOnly (row .0) → t ≡ false → v ≡ NotHex → r ≡ keeping p s (Answers.Refused Refusals.Malformed) → r ≡ rowSelected p s adr row v
+  pub row-not-hex : (r : Done) → t ≡ false → v ≡ NotHex → r ≡ kept d s (Answers.Refused Refusals.Malformed) → servedIn words r ≡ rowSelected (plantOf words d) s adr row v
   unfolding rowSelected
-  row-not-hex r d h n e = simp (sym d ∙ h, n) e
+  row-not-hex r h n e = simp (sym reads ∙ h, n) (ap (servedIn words) e)
 
-  pub row-stops : (w : ℕ) (u : Bool) (x : Plant) → t ≡ readOnly (row .0) → t ≡ false → v ≡ Word w → u ≡ stops p adr (row .0) w → u ≡ true → x ≡ stopped p
-      → _≡_ {A = Served} (record { plant = x; sioerr = 0; answer = Answers.Written (record { row = row; word = w }) }) (rowSelected p s adr row v)
+  pub row-stops : (w : ℕ) (u : Bool) (x : Drive) → t ≡ false → v ≡ Word w → u ≡ stops d adr (row .0) w → u ≡ true → x ≡ stopped d
+      → servedIn words (record { drive = x; sioerr = 0; answer = Answers.Written (record { row = row; word = w }) }) ≡ rowSelected (plantOf words d) s adr row v
   unfolding rowSelected
-  row-stops w u x d h n f k e = simp (sym d ∙ h, n, sym f ∙ k, e)
+  row-stops w u x h n f k e = simp (sym reads ∙ h, n, sym f ∙ k, e)
 
-  pub row-writes : (w : ℕ) (u : Bool) (r : Served) → t ≡ readOnly (row .0) → t ≡ false → v ≡ Word w → u ≡ stops p adr (row .0) w → u ≡ false → r ≡ wroteServed p s (row .0) w → r ≡ rowSelected p s adr row v
+  pub row-writes : (w : ℕ) (u : Bool) (r : Served) → t ≡ false → v ≡ Word w → u ≡ stops d adr (row .0) w → u ≡ false → r ≡ wroteServed (plantOf words d) s (row .0) w → r ≡ rowSelected (plantOf words d) s adr row v
   unfolding rowSelected
-  row-writes w u r d h n f k e = simp (sym d ∙ h, n, sym f ∙ k) e
+  row-writes w u r h n f k e = simp (sym reads ∙ h, n, sym f ∙ k) e
+
+-- ---- a message of either kind
+module _ (p : Plant) (s : ℕ) (m : Message) (r : Served) where
+  pub served-enquiry : (adr : ℕ) (q : Parameter) → m ≡ Enquiry adr q → r ≡ enquiryServed p s adr q → r ≡ served p s m
+  unfolding served
+  served-enquiry adr q h e = rw h e
+
+  pub served-select : (adr : ℕ) (q : Parameter) (v : Value) → m ≡ Select adr q v → r ≡ selectServed p s adr q v → r ≡ served p s m
+  unfolding served
+  served-select adr q v h e = rw h e
 
 -- ---- the reply
 fits-none : (room : ℕ) → fitting [] room ≡ []

@@ -3,11 +3,11 @@ use mathlib.Core.List.{List, []}
 use Prim.Native.Nat.{ℕ, _%_}
 use lib.Dec.{eqb}
 use Rattle.base.specs.Choice.{pick}
-use Rattle.nfo.specs.Replies.{replyOf, ackOf, nakOf}
-use Rattle.nfo.specs.declared.message.Message.{Message}
-use Rattle.nfo.specs.declared.message.Message.the-variants.{Enquiry, Select}
-use Rattle.nfo.specs.declared.message.Parameter.{Parameter}
-use Rattle.nfo.specs.declared.message.Parameter.the-variants.{Number, NoNumber}
+use Rattle.nfo_parts.specs.Replies.{replyOf, ackOf, nakOf}
+use Rattle.nfo_parts.specs.declared.message.Message.{Message}
+use Rattle.nfo_parts.specs.declared.message.Message.the-variants.{Enquiry, Select}
+use Rattle.nfo_parts.specs.declared.message.Parameter.{Parameter}
+use Rattle.nfo_parts.specs.declared.message.Parameter.the-variants.{Number, NoNumber}
 use Rattle.answers.specs.declared.Answer.{Answer}
 use Rattle.answers.specs.declared.Answer.the-variants.{Told, Written, NotOurs, Refused}
 use Rattle.nfo_service.specs.Serve.{adrOf}

@@ -12,21 +12,23 @@ use Rattle.table.specs.Find.{rowOfE}
 use Rattle.table.specs.declared.labels.Row.{Row}
 use Rattle.table.specs.declared.labels.Found.{Found}
 use Rattle.table.specs.declared.labels.Found.the-variants.{NoRow}
-use Rattle.nfo.specs.declared.message.Message.{Message}
-use Rattle.nfo.specs.declared.message.Message.the-variants.{Enquiry, Select}
-use Rattle.nfo.specs.declared.message.Parameter.{Parameter}
-use Rattle.nfo.specs.declared.message.Parameter.the-variants.{Number, NoNumber}
-use Rattle.nfo.specs.declared.message.Value.{Value}
-use Rattle.nfo.specs.declared.message.Value.the-variants.{Word, NotHex}
+use Rattle.nfo_parts.specs.declared.message.Message.{Message}
+use Rattle.nfo_parts.specs.declared.message.Message.the-variants.{Enquiry, Select}
+use Rattle.nfo_parts.specs.declared.message.Parameter.{Parameter}
+use Rattle.nfo_parts.specs.declared.message.Parameter.the-variants.{Number, NoNumber}
+use Rattle.nfo_parts.specs.declared.message.Value.{Value}
+use Rattle.nfo_parts.specs.declared.message.Value.the-variants.{Word, NotHex}
+use Rattle.drive.specs.declared.plant.Settings.{Settings}
+use Rattle.drive.specs.declared.plant.Drive.{Drive}
 use Rattle.drive.specs.declared.plant.Plant.{Plant}
+use Rattle.drive.specs.Plant.{withDrive}
 use Rattle.answers.specs.declared.Answer.{Answer}
 use Rattle.answers.specs.declared.Answer.the-variants as Answers
 use Rattle.answers.specs.declared.Refusal.the-variants as Refusals
 use Rattle.answers.specs.Answer.{answerNumber}
 use Rattle.drive.specs.Faults.{only14, stopped}
 use Rattle.permit.specs.Refusals.{readOnly, writeLines}
-use Rattle.service.specs.Serving.{isNone, theRow, keeping, toldServed, wroteServed}
-use Rattle.service.specs.declared.Served.{Served}
+use Rattle.service.specs.Serving.{Served, isNone, theRow, keeping, toldServed, wroteServed}
 
 -- ---- to whom a message speaks
 -- "ADR is address + 32"
@@ -38,11 +40,11 @@ abbrev pub toAll : ℕ → Bool
 toAll adr = eqb adr (adrOf 95)
 
 -- "We answer to SiAdr and to 0"
-unfoldable pub toUs : Plant → ℕ → Bool
-toUs p adr = both (not (toAll adr)) (either (eqb adr (adrOf 0)) (eqb adr (adrOf (getD (p .settings .words) SiAdr 0))))
+unfoldable pub toUs : Settings → ℕ → Bool
+toUs s adr = both (not (toAll adr)) (either (eqb adr (adrOf 0)) (eqb adr (adrOf (getD (s .words) SiAdr 0))))
 
-unfoldable pub reachesUs : Plant → ℕ → Bool
-reachesUs p adr = either (toAll adr) (toUs p adr)
+unfoldable pub reachesUs : Settings → ℕ → Bool
+reachesUs s adr = either (toAll adr) (toUs s adr)
 
 -- ---- what it names
 unfoldable pub rowNamed : Parameter → Found
@@ -61,10 +63,10 @@ theWord NotHex = 0
 -- ---- the refusals, each with its "When", in the paper's order
 -- "1: other address", for an ENQUIRY also "broadcast read"; "2: no such row"
 abbrev pub enquiryLines : Plant → ℕ → Found → List (Line Answer)
-enquiryLines p adr found = when (not (toUs p adr)) Answers.NotOurs ∷ when (isNone found) (Answers.Refused Refusals.NoRow) ∷ []
+enquiryLines p adr found = when (not (toUs (p .settings) adr)) Answers.NotOurs ∷ when (isNone found) (Answers.Refused Refusals.NoRow) ∷ []
 
 abbrev pub nameLines : Plant → ℕ → Found → List (Line Answer)
-nameLines p adr found = when (not (reachesUs p adr)) Answers.NotOurs ∷ when (isNone found) (Answers.Refused Refusals.NoRow) ∷ []
+nameLines p adr found = when (not (reachesUs (p .settings) adr)) Answers.NotOurs ∷ when (isNone found) (Answers.Refused Refusals.NoRow) ∷ []
 
 -- "3: row is read-only"; "8: value not hex"
 abbrev pub rowLines : Row → Value → List (Line Answer)
@@ -83,17 +85,17 @@ enquiryServed p sioerr adr parameter =
     (toldServed p sioerr (theRow (rowNamed parameter)))
 
 -- "A broadcast SELECT of SCMD 0 while 14 is the only flag zeroes SioErr and clears 14 with outcome 0, at any MODE"
-unfoldable pub stops : Plant → ℕ → ℕ → ℕ → Bool
-stops p adr row w = both (toAll adr) (both (eqb row SCMD) (both (eqb w 0) (only14 p)))
+unfoldable pub stops : Drive → ℕ → ℕ → ℕ → Bool
+stops d adr row w = both (toAll adr) (both (eqb row SCMD) (both (eqb w 0) (only14 d)))
 
 abbrev pub stopServed : Plant → Row → ℕ → Served
-stopServed p row w = record { plant = stopped p; sioerr = 0; answer = Answers.Written (record { row = row; word = w }) }
+stopServed p row w = record { plant = withDrive (stopped (p .drive)) p; sioerr = 0; answer = Answers.Written (record { row = row; word = w }) }
 
 -- a SELECT of a row that there is: past these lines, refusals 4 to 7 or the write
 unfoldable pub rowSelected : Plant → ℕ → ℕ → Row → Value → Served
 rowSelected p sioerr adr row value =
     firstOf (saying (keeping p sioerr) (rowLines row value))
-    (pick (stops p adr (row .0) (theWord value)) (stopServed p row (theWord value)) (wroteServed p sioerr (row .0) (theWord value)))
+    (pick (stops (p .drive) adr (row .0) (theWord value)) (stopServed p row (theWord value)) (wroteServed p sioerr (row .0) (theWord value)))
 
 unfoldable pub selectServed : Plant → ℕ → ℕ → Parameter → Value → Served
 selectServed p sioerr adr parameter value =

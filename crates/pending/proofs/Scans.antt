@@ -17,9 +17,8 @@ use Rattle.stream.specs.Scanned.{further, scanned}
 use Rattle.stream.proofs.Pending.{feed-viable}
 use Rattle.stream.proofs.Scanned.{further-more, scanned-takes, scanned-goes, scanned-end}
 use Rattle.pending.specs.declared.Pending.{Pending}
-use Rattle.pending.specs.declared.Scan.{Scan}
 use Rattle.pending.specs.Held.{held, Sized}
-use Rattle.pending.specs.Scanning.{Feeding, scanFrom, scanOn, seenIn, Follows}
+use Rattle.pending.specs.Scanning.{Scan, Feeding, scanFrom, scanOn, seenIn, Follows}
 
 -- ---- a loop over the bytes s, from p₀ on: what is left to do gives the whole
 abbrev pub Scanning : Feeding → Pending → List ℕ → Pending → ℕ → Type 0

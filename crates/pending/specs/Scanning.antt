@@ -8,8 +8,18 @@ use Rattle.stream.specs.Format.{Format}
 use Rattle.stream.specs.Automaton.{feed}
 use Rattle.stream.specs.Scanned.{Seen}
 use Rattle.pending.specs.declared.Pending.{Pending}
-use Rattle.pending.specs.declared.Scan.{Scan}
+use Rattle.pending.specs.declared.Scanned.{Scanned}
 use Rattle.pending.specs.Held.{held, Sized}
+
+-- what a scan leaves: what is pending then, how many bytes it used, and whether they end a message, which is held then
+pub record Scan : Type 0 where
+  pub pending : Pending
+  pub used : ℕ
+  pub taken : Bool
+
+-- the routine tells all but the bytes, which are those of the lent array
+abbrev pub scanIn : List ℕ → Scanned → Scan
+scanIn bytes s = record { pending = record { bytes = bytes; len = s .len }; used = s .used; taken = s .taken }
 
 -- what a protocol makes of one byte: whether it ends a message, and what is held then; and the message that is held where one has ended. (A last
 -- byte that all messages share is part of the message, and need not be held.)

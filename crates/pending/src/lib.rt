@@ -4,15 +4,16 @@ ghost use mathlib.Core.Path.{_≡_};
 ghost use Rattle.pending.specs.Held.{empty, pushed, emptied, restarted};
 
 // The raw bytes left, in order: the first `len` of the array. A `len` above 512 reads as 512, so any bits are bytes pending.
+#[repr(C)]
 pub struct Pending {
     pub bytes: [u8; 512],
     pub len: usize,
 }
 
-// What a scan leaves: what is pending then, how many bytes it used, and whether they end a message. Where they do, `pending` holds
+// What a scan tells: how many bytes the lent array holds then, how many it used, and whether they end a message. Where they do, the array holds
 // the message, as the protocol's feeding has it.
-pub struct Scan {
-    pub pending: Pending,
+pub struct Scanned {
+    pub len: usize,
     pub used: usize,
     pub taken: bool,
 }

@@ -17,6 +17,7 @@ use Rattle.answers.specs.Answer.{refusalNumber}
 use Rattle.answers.specs.declared.Refusal.{Refusal}
 use Rattle.answers.specs.declared.Refusal.the-variants.{ReadOnly, NotAllowed, FlagStands, Running, NotPermitted}
 use Rattle.drive.specs.declared.plant.Settings.{Settings}
+use Rattle.drive.specs.declared.plant.Drive.{Drive}
 use Rattle.drive.specs.declared.plant.Plant.{Plant}
 use Rattle.drive.specs.Faults.{active, flagStands, runs}
 
@@ -43,12 +44,12 @@ isInit Init = true
 isInit Run = false
 isInit Read = false
 
-unfoldable pub held : Plant → ℕ → Bool
-held p row = both (isInit (lineAt row .class)) (runs p)
+unfoldable pub held : Drive → ℕ → Bool
+held d row = both (isInit (lineAt row .class)) (runs d)
 
 -- 7: "SCMD is written only at MODE 3; run values need DIN1 active"
-unfoldable pub permitted : Plant → ℕ → ℕ → Bool
-permitted p row w = either (not (eqb row SCMD)) (both (eqb (p .mode) 3) (either (eqb w 0) (active p)))
+unfoldable pub permitted : Drive → ℕ → ℕ → Bool
+permitted d row w = either (not (eqb row SCMD)) (both (eqb (d .mode) 3) (either (eqb w 0) (active d)))
 
 -- ---- the order, which each protocol begins with lines of its own
 abbrev pub readLine : ℕ → Line Refusal
@@ -57,9 +58,9 @@ readLine row = when (readOnly row) ReadOnly
 abbrev pub writeLines : Plant → ℕ → ℕ → List (Line Refusal)
 writeLines p row w =
     when (not (allowed p row w)) NotAllowed
-    ∷ when (flagStands p) FlagStands
-    ∷ when (held p row) Running
-    ∷ when (not (permitted p row w)) NotPermitted
+    ∷ when (flagStands (p .drive)) FlagStands
+    ∷ when (held (p .drive) row) Running
+    ∷ when (not (permitted (p .drive) row w)) NotPermitted
     ∷ []
 
 -- "Order: .. 3, .. 4, 5, 6, 7"

@@ -1,24 +1,24 @@
 // What Inv St tells.
-use drive::Plant;
+use drive::Drive;
 ghost use mathlib.Core.Path.{_≡_};
 ghost use Rattle.drive.specs.Flags.{lowestOf};
 ghost use Rattle.drive.specs.Faults.{statusOf};
 
 // Inv St: the lowest flagged number, else the number of the MODE, standing or running.
-pub(crate) fn status_of(plant: Plant) -> u32
-    ensures { λ r. ⌜ r ≡ statusOf plant ⌝ }
+pub(crate) fn status_of(drive: Drive) -> u32
+    ensures { λ r. ⌜ r ≡ statusOf drive ⌝ }
 {
-    if plant.flags != 0 {
-        return lowest(plant.flags);
+    if drive.flags != 0 {
+        return lowest(drive.flags);
     }
-    if plant.mode == 2 {
-        if plant.running() {
+    if drive.mode == 2 {
+        if drive.running() {
             return 34;
         }
         return 33;
     }
-    if plant.mode == 3 {
-        if plant.running() {
+    if drive.mode == 3 {
+        if drive.running() {
             return 38;
         }
         return 37;

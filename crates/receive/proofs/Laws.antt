@@ -9,7 +9,10 @@ use lib.ListN.{length}
 use Rattle.base.proofs.Tests.{pick-both}
 use Rattle.card.specs.declared.state.Card.{Card}
 use Rattle.turn.specs.Turn.{Received}
+use Rattle.turn.specs.Core.{cardOf, coreOf, turnIn}
 use Rattle.turn.specs.declared.Turn.{Turn}
+use Rattle.turn.specs.declared.Core.{Core}
+use Rattle.turn.specs.declared.CoreTurn.{CoreTurn}
 use Rattle.turn.proofs.Laws.{Does}
 use Rattle.nfo_port.specs.Receive.{nfoReceived}
 use Rattle.nfo_port.proofs.Laws.{nfo-used, nfo-uses, nfo-short}
@@ -52,3 +55,9 @@ module _ (c : Card) (bytes : List ℕ) (room : ℕ) where
 -- the call of a protocol is the call
 pub does : (r : Turn) (out before : List ℕ) (k l : Received) → k ≡ l → Does r out l before → Does r out k before
 does r out before k l e d = rw e d
+
+-- a card that is taken apart, called, and put together
+pub whole : (c : Card) (held words : List ℕ) (k : Core) (t : CoreTurn) (bytes out before : List ℕ) → k ≡ coreOf c
+    → Does (turnIn held words t) out (received (cardOf (c .port .pending .bytes) (c .plant .settings .words) k) bytes (length before)) before
+    → Does (turnIn held words t) out (received c bytes (length before)) before
+whole c held words k t bytes out before e d = rw e at d

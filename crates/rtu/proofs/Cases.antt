@@ -4,11 +4,11 @@ use mathlib.Core.Bool.{Bool}
 use mathlib.Core.List.{List, map}
 use Prim.Native.Nat.{ℕ}
 use Rattle.checks.specs.Crc.{crcBit, crcByte, crcOf, crcBytes, bodyOf, crcTold, crcHolds}
-use Rattle.modbus.specs.Words.{wordBytes, longBytes, wordAt}
+use Rattle.modbus_words.specs.Words.{wordBytes, longBytes, wordAt}
 use Rattle.modbus.specs.Request.{reads, writes, asked, requestOf}
 use Rattle.modbus.specs.Answer.{unitOf}
 use Rattle.modbus.specs.declared.requests.Request.{Request}
-use Rattle.modbus.specs.declared.answers.Answer.{Answer}
+use Rattle.modbus.specs.declared.replies.Answer.{Answer}
 use Rattle.rtu.specs.Rtu.{frameHolds, unitIn, rtuOf, registerSpan, registerData}
 use Rattle.rtu.specs.Cases.{requests, replies}
 

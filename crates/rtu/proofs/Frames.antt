@@ -12,7 +12,7 @@ use Rattle.base.proofs.Tests.{both-out, pick-both}
 use Rattle.checks.specs.Crc.{bodyOf, crcHolds}
 use Rattle.checks.proofs.Laws.{body-length}
 use Rattle.rtu.specs.Rtu.{frameHolds, addressIn, unitIn, partOf, dataOf, registerSpan, registerData}
-use Rattle.modbus.specs.Words.{wordAt}
+use Rattle.modbus_words.specs.Words.{wordAt}
 use Rattle.modbus.specs.Request.{between, span, reads, writes, asked, requestOf}
 use Rattle.modbus.specs.declared.requests.Span.{Span}
 use Rattle.modbus.specs.declared.requests.Request.{Request}

@@ -11,7 +11,7 @@ use Rattle.checks.specs.Crc.{crcOf, crcBytes}
 use Rattle.modbus.specs.Answer.{unitOf}
 use Rattle.modbus.specs.Reply.{replyIn}
 use Rattle.rtu.specs.Rtu.{rtuOf}
-use Rattle.modbus.specs.declared.answers.Answer.{Answer}
+use Rattle.modbus.specs.declared.replies.Answer.{Answer}
 use Rattle.modbus.proofs.Units.{unit-short}
 use Rattle.modbus.proofs.Buffers.{reply-all}
 

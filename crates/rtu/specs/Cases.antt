@@ -5,8 +5,8 @@ use Prim.Native.Nat.{ℕ}
 use Rattle.modbus.specs.Request.{label, span}
 use Rattle.modbus.specs.declared.requests.Request.{Request}
 use Rattle.modbus.specs.declared.requests.Request.the-variants.{Read, One, Many, Malformed, Unknown}
-use Rattle.modbus.specs.declared.answers.Answer.{Answer}
-use Rattle.modbus.specs.declared.answers.Answer.the-variants.{Word, Long, Echo, Exception}
+use Rattle.modbus.specs.declared.replies.Answer.{Answer}
+use Rattle.modbus.specs.declared.replies.Answer.the-variants.{Word, Long, Echo, Exception}
 
 -- a frame; whether it holds; what its unit asks; its register data
 abbrev pub requests : List (List ℕ × Bool × Request × List ℕ)

@@ -1,5 +1,6 @@
 // The RTU frame of Modbus: address, data unit, CRC.
-// `frame_holds`, `address_in` and `unit_in` read a request's frame, `register_data` hands out a part of it, and `put_rtu` writes a reply's.
+// `frame_holds`, `address_in` and `unit_in` read a request's frame, `register_data` hands out a part of it, `register_span` says where that lies, and
+// `put_rtu` writes a reply's.
 use modbus::Answer;
 use modbus::Request;
 use modbus::Span;
@@ -63,7 +64,7 @@ fn data_of(request: Request) -> Span
 }
 
 // Where the register data of a well-made 06 or 16 lies in its frame; else from 0 to 0.
-fn register_span(frame: &[u8]) -> Span
+pub fn register_span(frame: &[u8]) -> Span
     ensures { λ r. ⌜ r ≡ registerSpan (now (frame .entry)) ⌝ }
 {
     if !frame_holds(frame) {

@@ -1,5 +1,5 @@
 -- A call on a frame of Modbus RTU, case by case. Assumes nothing.
-use mathlib.Core.Path.{_≡_, refl}
+use mathlib.Core.Path.{_≡_, refl, ap}
 use mathlib.Core.Bool.{Bool, true, false, not}
 use mathlib.Core.List.{List}
 use Prim.Native.Nat.{ℕ, _≤_, _<_}
@@ -13,39 +13,49 @@ use Rattle.modbus.specs.Answer.{unitOf}
 use Rattle.modbus.proofs.Units.{unit-short}
 use Rattle.rtu.specs.Rtu.{frameHolds, addressIn, unitIn}
 use Rattle.rtu.proofs.Replies.{rtu-length}
-use Rattle.modbus_service.specs.Reply.{exchanged}
+use Rattle.drive.specs.Plant.{plantOf}
+use Rattle.modbus_service.specs.Reply.{exchangedIn, exchanged}
 use Rattle.modbus_service.specs.declared.Exchange.{Exchange}
 use Rattle.modbus_service.specs.declared.Reply.{Reply}
 use Rattle.modbus_service.specs.declared.Reply.the-variants.{Nothing, Data}
 use Rattle.card.specs.declared.state.Card.{Card}
 use Rattle.card.specs.declared.outcome.Outcome.the-variants as Outcomes
-use Rattle.turn.specs.Turn.{Received, turnOf, tooShort, cardAfter}
+use Rattle.turn.specs.Turn.{Received, tooShort}
+use Rattle.turn.specs.Core.{cardOf, turnIn, shortIn, coreAfter}
+use Rattle.turn.specs.declared.Core.{Core}
+use Rattle.turn.specs.declared.CoreTurn.{CoreTurn}
 use Rattle.turn.specs.declared.Turn.{Turn}
-use Rattle.turn.proofs.Laws.{Does, silent}
-use Rattle.rtu_port.specs.Receive.{exchangeOn, frameOf, spoilt, taken, rtuReceived}
+use Rattle.turn.proofs.Laws.{Does, silent, after-in}
+use Rattle.rtu_port.specs.Receive.{exchangeOn, frameOf, spoilt, spoiltIn, taken, rtuReceived}
 
--- ---- a frame is taken
-module _ (c after : Card) (frame unit : List ℕ) (address : ℕ) (e : Exchange) (n : ℕ) (out before : List ℕ)
-    (from : address ≡ addressIn frame) (has : unit ≡ unitIn frame) (serves : e ≡ exchanged (c .plant) (c .port .sioerr) (c .station) address unit)
+-- ---- a frame is taken: the arrays `held`, `words` are lent, and `words′` are the settings then
+module _ (held words words′ : List ℕ) (k after : Core) (frame unit : List ℕ) (address : ℕ) (e : Exchange) (n : ℕ) (out before : List ℕ)
+    (from : address ≡ addressIn frame) (has : unit ≡ unitIn frame)
+    (serves : exchangedIn words′ e ≡ exchanged (plantOf words (k .drive)) (k .sioerr) (k .station) address unit)
     (puts : (n ≡ length (frameOf address (e .reply))) × (out ≡ front (frameOf address (e .reply)) before))
-    (leaves : after ≡ cardAfter c (c .port .pending) (e .served)) where
-  pub takes : Does (record { card = after; outcome = Outcomes.Served (e .served .answer); used = length frame; len = n }) out (taken c frame) before
-  takes = rw (← has, ← from, ← serves, leaves, puts .0) (refl, puts .1)
+    (leaves : after ≡ coreAfter k (e .done)) where
+  pub takes : Does (turnIn held words′ (record { core = after; outcome = Outcomes.Served (e .done .answer); used = length frame; len = n })) out
+      (taken (cardOf held words k) frame) before
+  takes = rw (← has, ← from, ← serves, leaves, puts .0, after-in held words held words′ (k .len) k (e .done)) (refl, puts .1)
 
 -- ---- the whole call
-module _ (c : Card) (frame before : List ℕ) where
+module _ (held words : List ℕ) (k : Core) (frame before : List ℕ) where
   abbrev call : Received
-  call = rtuReceived c frame (length before)
+  call = rtuReceived (cardOf held words k) frame (length before)
 
-  pub short : (r : Turn) → length before < 19 → r ≡ turnOf (tooShort c) → Does r before call before
+  pub short : (r : CoreTurn) → length before < 19 → r ≡ shortIn k → Does (turnIn held words r) before call before
   unfolding rtuReceived
-  short r h e = simp (lt-ltb (length before) 19 h) (silent r (tooShort c) before refl e)
+  short r h e = simp (lt-ltb (length before) 19 h) (silent (turnIn held words r) (tooShort (cardOf held words k)) before refl (ap (turnIn held words) e))
 
-  pub spoils : (holds : Bool) (r : Turn) → 19 ≤ length before → holds ≡ frameHolds frame → not holds ≡ true → r ≡ turnOf (spoilt c (length frame)) → Does r before call before
+  pub spoils : (holds : Bool) (r : CoreTurn) → 19 ≤ length before → holds ≡ frameHolds frame → not holds ≡ true → r ≡ spoiltIn k (length frame)
+      → Does (turnIn held words r) before call before
   unfolding rtuReceived
-  spoils holds r h d t e = simp (le-ltb (length before) 19 h, ← d, not-true holds t) (silent r (spoilt c (length frame)) before refl e)
+  spoils holds r h d t e =
+      simp (le-ltb (length before) 19 h, ← d, not-true holds t)
+      (silent (turnIn held words r) (spoilt (cardOf held words k) (length frame)) before refl (ap (turnIn held words) e))
 
-  pub holds-one : (holds : Bool) (r : Turn) (out : List ℕ) → 19 ≤ length before → holds ≡ frameHolds frame → not holds ≡ false → Does r out (taken c frame) before → Does r out call before
+  pub holds-one : (holds : Bool) (r : Turn) (out : List ℕ) → 19 ≤ length before → holds ≡ frameHolds frame → not holds ≡ false
+      → Does r out (taken (cardOf held words k) frame) before → Does r out call before
   unfolding rtuReceived
   holds-one holds r out h d t e = simp (le-ltb (length before) 19 h, ← d, not-false holds t) e
 

@@ -5,15 +5,16 @@ use lib.Dec.{ltb}
 use lib.ListN.{length}
 use Rattle.base.specs.Choice.{pick}
 use Rattle.rtu.specs.Rtu.{frameHolds, addressIn, unitIn, rtuOf}
-use Rattle.modbus_service.specs.Reply.{sentBy, exchanged}
-use Rattle.modbus_service.specs.declared.Exchange.{Exchange}
+use Rattle.modbus_service.specs.Reply.{sentBy, Exchanged, exchanged}
 use Rattle.modbus_service.specs.declared.Reply.{Reply}
 use Rattle.card.specs.declared.state.Card.{Card}
 use Rattle.card.specs.declared.outcome.Outcome.the-variants as Outcomes
 use Rattle.turn.specs.Turn.{Received, tooShort, answered}
+use Rattle.turn.specs.declared.Core.{Core}
+use Rattle.turn.specs.declared.CoreTurn.{CoreTurn}
 
 -- what a frame's data unit comes to, on this card
-abbrev pub exchangeOn : Card → List ℕ → Exchange
+abbrev pub exchangeOn : Card → List ℕ → Exchanged
 exchangeOn c frame = exchanged (c .plant) (c .port .sioerr) (c .station) (addressIn frame) (unitIn frame)
 
 -- the reply's frame, from the request's address
@@ -23,6 +24,10 @@ frameOf = sentBy rtuOf
 -- "11: RTU length or CRC wrong"
 abbrev pub spoilt : Card → ℕ → Received
 spoilt c used = record { card = c; outcome = Outcomes.BadFrame; used = used; reply = [] }
+
+-- the same of a core
+abbrev pub spoiltIn : Core → ℕ → CoreTurn
+spoiltIn k used = record { core = k; outcome = Outcomes.BadFrame; used = used; len = 0 }
 
 -- length and CRC are right
 abbrev pub taken : Card → List ℕ → Received

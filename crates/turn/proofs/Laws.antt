@@ -1,5 +1,5 @@
 -- A stream call, case by case, for any protocol that comes as a stream. Assumes nothing.
-use mathlib.Core.Path.{_≡_, refl, sym}
+use mathlib.Core.Path.{_≡_, refl, sym, ap}
 use mathlib.Core.Bool.{true, false, not}
 use mathlib.Core.List.{List, []}
 use Prim.Native.Nat.{ℕ, _+_, _≤_, _<_}
@@ -10,13 +10,19 @@ use lib.ListN.{length}
 use Rattle.base.specs.Buffers.{front}
 use Rattle.base.proofs.Sets.{front-none}
 use Rattle.base.proofs.Tests.{pick-both}
-use Rattle.pending.specs.declared.Scan.{Scan}
-use Rattle.pending.specs.Scanning.{scanFrom}
+use Rattle.pending.specs.Held.{emptied}
+use Rattle.pending.specs.Scanning.{Scan, scanFrom, scanIn}
+use Rattle.pending.specs.declared.Scanned.{Scanned}
 use Rattle.pending.proofs.Scans.{scan-used, scan-uses}
 use Rattle.card.specs.declared.state.Card.{Card}
-use Rattle.turn.specs.Turn.{Received, turnOf, tooShort, waiting}
+use Rattle.service.specs.declared.Done.{Done}
+use Rattle.service.specs.Serving.{servedIn}
+use Rattle.turn.specs.Turn.{Received, turnOf, tooShort, waiting, cardAfter}
+use Rattle.turn.specs.Core.{cardOf, turnIn, shortIn, waitingIn, coreAfter}
 use Rattle.turn.specs.Stream.{Stream, taken, streamed}
 use Rattle.turn.specs.declared.Turn.{Turn}
+use Rattle.turn.specs.declared.Core.{Core}
+use Rattle.turn.specs.declared.CoreTurn.{CoreTurn}
 
 -- what a call hands back, and the reply buffer after it, are those of r
 abbrev pub Does : Turn → List ℕ → Received → List ℕ → Type 0
@@ -26,22 +32,32 @@ Does turn out r before = (turn ≡ turnOf r) × (out ≡ front (r .reply) before
 pub silent : (turn : Turn) (r : Received) (before : List ℕ) → r .reply ≡ [] → turn ≡ turnOf r → Does turn before r before
 silent turn r before n e = (e, rw n (sym (front-none before)))
 
-module _ (S : Stream) (c : Card) (bytes before : List ℕ) where
+-- ---- a card whose arrays are lent, `held` and `words`, and its core k: each kind of turn is the one of the whole card
+module _ (S : Stream) (held words : List ℕ) (k : Core) (bytes before : List ℕ) where
   abbrev call : Received
-  call = streamed S c bytes (length before)
+  call = streamed S (cardOf held words k) bytes (length before)
 
   -- "A reply buffer under 19 bytes is 10, with no byte used"
-  pub short : (r : Turn) → length before < 19 → r ≡ turnOf (tooShort c) → Does r before call before
-  short r h e = simp (lt-ltb (length before) 19 h) (silent r (tooShort c) before refl e)
+  pub short : (r : CoreTurn) → length before < 19 → r ≡ shortIn k → Does (turnIn held words r) before call before
+  short r h e = simp (lt-ltb (length before) 19 h) (silent (turnIn held words r) (tooShort (cardOf held words k)) before refl (ap (turnIn held words) e))
 
-  pub waits : (scan : Scan) (r : Turn) → 19 ≤ length before → scan ≡ scanFrom (S .feeding) (c .port .pending) 0 bytes → not (scan .taken) ≡ true
-      → r ≡ turnOf (waiting c scan) → Does r before call before
-  unfolding waiting
-  waits scan r h d t e = simp (le-ltb (length before) 19 h, ← d, not-true (scan .taken) t) (silent r (waiting c scan) before refl e)
+  -- what the scan leaves in the array
+  module _ (left : List ℕ) (scan : Scanned) (h : 19 ≤ length before)
+      (d : scanIn left scan ≡ scanFrom (S .feeding) (record { bytes = held; len = k .len }) 0 bytes) where
+    pub waits : (r : CoreTurn) → not (scan .taken) ≡ true → r ≡ waitingIn k scan → Does (turnIn left words r) before call before
+    unfolding waiting
+    waits r t e =
+        simp (le-ltb (length before) 19 h, ← d, not-true (scan .taken) t)
+        (silent (turnIn left words r) (waiting (cardOf held words k) (scanIn left scan)) before refl (ap (turnIn left words) e))
 
-  pub takes : (scan : Scan) (r : Turn) (out : List ℕ) → 19 ≤ length before → scan ≡ scanFrom (S .feeding) (c .port .pending) 0 bytes → not (scan .taken) ≡ false
-      → Does r out (taken S c scan) before → Does r out call before
-  takes scan r out h d t e = simp (le-ltb (length before) 19 h, ← d, not-false (scan .taken) t) e
+    pub takes : (r : Turn) (out : List ℕ) → not (scan .taken) ≡ false → Does r out (taken S (cardOf held words k) (scanIn left scan)) before → Does r out call before
+    takes r out t e = simp (le-ltb (length before) 19 h, ← d, not-false (scan .taken) t) e
+
+-- the core once a message was served, with the arrays then, is the card then
+pub after-in : (held words left after : List ℕ) (n : ℕ) (k : Core) (done : Done)
+    → cardOf left after (coreAfter k done) ≡ cardAfter (cardOf held words k) (record { bytes = left; len = n }) (servedIn after done)
+unfolding cardAfter emptied
+after-in held words left after n k done = refl
 
 -- ---- the bytes used: none that is not there, and one at least where there is one and the buffer is no shorter than 19
 module _ (S : Stream) (c : Card) (bytes : List ℕ) (room : ℕ) where

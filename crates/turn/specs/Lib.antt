@@ -1,2 +1,3 @@
-pub mod Turn
+pub mod Core
 pub mod Stream
+pub mod Turn

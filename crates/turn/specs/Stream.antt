@@ -4,9 +4,8 @@ use Prim.Native.Nat.{ℕ}
 use lib.Dec.{ltb}
 use Rattle.base.specs.Choice.{pick}
 use Rattle.pending.specs.declared.Pending.{Pending}
-use Rattle.pending.specs.declared.Scan.{Scan}
-use Rattle.pending.specs.Scanning.{Feeding, scanFrom}
-use Rattle.service.specs.declared.Served.{Served}
+use Rattle.pending.specs.Scanning.{Scan, Feeding, scanFrom}
+use Rattle.service.specs.Serving.{Served}
 use Rattle.card.specs.declared.state.Card.{Card}
 use Rattle.turn.specs.Turn.{Received, tooShort, waiting, answered}
 

@@ -3,11 +3,11 @@ use mathlib.Core.List.{List, []}
 use Prim.Native.Nat.{ℕ}
 use lib.ListN.{length}
 use Rattle.pending.specs.declared.Pending.{Pending}
-use Rattle.pending.specs.declared.Scan.{Scan}
+use Rattle.pending.specs.Scanning.{Scan}
 use Rattle.pending.specs.Held.{emptied}
 use Rattle.answers.specs.declared.Answer.{Answer}
 use Rattle.answers.specs.declared.Answer.the-variants.{Told, Written, NotOurs, Refused}
-use Rattle.service.specs.declared.Served.{Served}
+use Rattle.service.specs.Serving.{Served}
 use Rattle.card.specs.State.{withPort, withPending}
 use Rattle.card.specs.declared.state.Card.{Card}
 use Rattle.card.specs.declared.outcome.Outcome.{Outcome}

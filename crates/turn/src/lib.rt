@@ -1,14 +1,14 @@
-// What a call on bytes from the line hands back, by any protocol: `Turn`. `short_buffer` and `nothing_taken` are the calls that take no message,
-// `card_after` is the card once one was served.
+// What a call on bytes from the line hands back, by any protocol: a `Turn` with the whole card, or a `CoreTurn` where the card's two arrays are lent.
+// `short_buffer` and `nothing_taken` are the calls that take no message, `core_after` is the core once one was served; `core_of` takes a card apart.
 use answers::Answer;
 use card::Card;
 use card::Outcome;
-use card::Port;
-use pending::Pending;
-use pending::Scan;
-use service::Served;
+use drive::Drive;
+use pending::Scanned;
+use service::Done;
 ghost use mathlib.Core.Path.{_≡_};
-ghost use Rattle.turn.specs.Turn.{turnOf, tooShort, waiting, sumAfter, cardAfter};
+ghost use Rattle.turn.specs.Turn.{sumAfter};
+ghost use Rattle.turn.specs.Core.{coreOf, shortIn, waitingIn, coreAfter};
 
 // The card, the outcome, how many bytes were used, and the length of the reply, 0 where there is none.
 pub struct Turn {
@@ -18,12 +18,49 @@ pub struct Turn {
     pub len: usize,
 }
 
-// The reply buffer is too short: 10, no byte is used and nothing changes.
-pub fn short_buffer(card: Card) -> Turn
-    ensures { λ r. ⌜ r ≡ turnOf (tooShort card) ⌝ }
+// The card but for its two arrays, the bytes pending and the settings: `len` says how many bytes are pending. Calls are lent the arrays and handed
+// the core, so that they copy neither array.
+pub struct Core {
+    pub drive: Drive,
+    pub len: usize,
+    pub protocol: u32,
+    pub sum: u32,
+    pub sioerr: u32,
+    pub station: u32,
+}
+
+// A turn of a card whose arrays are lent.
+pub struct CoreTurn {
+    pub core: Core,
+    pub outcome: Outcome,
+    pub used: usize,
+    pub len: usize,
+}
+
+// The card's core.
+pub fn core_of(card: Card) -> Core
+    ensures { λ r. ⌜ r ≡ coreOf card ⌝ }
 {
-    Turn {
-        card,
+    let port = card.port;
+    let pending = port.pending;
+    let plant = card.plant;
+    let drive = plant.drive;
+    Core {
+        drive,
+        len: pending.len,
+        protocol: port.protocol,
+        sum: port.sum,
+        sioerr: port.sioerr,
+        station: card.station,
+    }
+}
+
+// The reply buffer is too short: 10, no byte is used and nothing changes.
+pub fn short_buffer(core: Core) -> CoreTurn
+    ensures { λ r. ⌜ r ≡ shortIn core ⌝ }
+{
+    CoreTurn {
+        core,
         outcome: Outcome::ShortBuffer,
         used: 0,
         len: 0,
@@ -31,39 +68,32 @@ pub fn short_buffer(card: Card) -> Turn
 }
 
 // Nothing is taken: 15, and what the scan left is pending.
-pub fn nothing_taken(card: Card, scan: Scan) -> Turn
-    ensures { λ r. ⌜ r ≡ turnOf (waiting card scan) ⌝ }
+pub fn nothing_taken(core: Core, scan: Scanned) -> CoreTurn
+    ensures { λ r. ⌜ r ≡ waitingIn core scan ⌝ }
 {
-    let pending = scan.pending;
-    let mut port = card.port;
-    port.pending = pending;
-    let mut after = card;
-    after.port = port;
-    Turn {
-        card: after,
+    let mut after = core;
+    after.len = scan.len;
+    CoreTurn {
+        core: after,
         outcome: Outcome::NothingTaken,
         used: scan.used,
         len: 0,
     }
 }
 
-// The card once a message was served, whose bytes `held` holds: nothing is pending then.
-pub fn card_after(card: Card, held: Pending, served: Served) -> Card
-    ensures { λ r. ⌜ r ≡ cardAfter card held served ⌝ }
+// The core once a message was served: nothing is pending then.
+pub fn core_after(core: Core, done: Done) -> Core
+    ensures { λ r. ⌜ r ≡ coreAfter core done ⌝ }
 {
-    let before = card.port;
-    let answer = served.answer;
-    let pending = held.emptied();
-    let plant = served.plant;
-    Card {
-        port: Port {
-            pending,
-            protocol: before.protocol,
-            sum: sum_after(answer, before.sum),
-            sioerr: served.sioerr,
-        },
-        plant,
-        station: card.station,
+    let answer = done.answer;
+    let drive = done.drive;
+    Core {
+        drive,
+        len: 0,
+        protocol: core.protocol,
+        sum: sum_after(answer, core.sum),
+        sioerr: done.sioerr,
+        station: core.station,
     }
 }
 

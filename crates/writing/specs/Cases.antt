@@ -8,7 +8,7 @@ use Rattle.table.specs.Table.{rows, startWords}
 use Rattle.drive.specs.declared.plant.Plant.{Plant}
 use Rattle.drive.specs.Plant.{started}
 use Rattle.drive.specs.Events.{withActive}
-use Rattle.drive.specs.Cases.{bus, bus-runs}
+use Rattle.drive.specs.Cases.{bus, bus-runs, plantWith}
 use Rattle.writing.specs.Write.{stored, applied}
 
 abbrev setpoint : Plant → ℕ
@@ -19,9 +19,9 @@ cases =
     -- a different Mode sets Setpoint to 0, and the same Mode does not; so it is with MODE and SCMD
     (setpoint (applied Mode 1 (applied Setpoint 7 started)), 0)
     ∷ (setpoint (applied Mode 0 (applied Setpoint 7 started)), 7)
-    ∷ (applied MODE 2 bus-runs .scmd, 0)
-    ∷ (applied MODE 3 bus-runs .scmd, 129)
-    ∷ (applied SCMD 257 bus .scmd, 257)
+    ∷ (applied MODE 2 (plantWith bus-runs) .drive .scmd, 0)
+    ∷ (applied MODE 3 (plantWith bus-runs) .drive .scmd, 129)
+    ∷ (applied SCMD 257 (plantWith bus) .drive .scmd, 257)
     ∷ []
 
 pub cases-hold : map (λ (c : ℕ × ℕ). c .0) cases ≡ map (λ (c : ℕ × ℕ). c .1) cases

@@ -1,5 +1,6 @@
 -- What a write changes. Assumes nothing.
 use mathlib.Core.Bool.{not}
+use mathlib.Core.List.{List}
 use Prim.Native.Nat.{ℕ}
 use lib.Dec.{eqb, ltb}
 use lib.ListN.{getD, set}
@@ -7,7 +8,7 @@ use Rattle.base.specs.Choice.{pick, both}
 use Rattle.table.specs.Names.{Mode, Setpoint, MODE, SCMD}
 use Rattle.drive.specs.declared.plant.Settings.{Settings}
 use Rattle.drive.specs.declared.plant.Plant.{Plant}
-use Rattle.drive.specs.Plant.{withSettings, withMode, withScmd}
+use Rattle.drive.specs.Plant.{withMode, withScmd, withSettings, withDrive, plantOf}
 use Rattle.permit.specs.declared.Permit.{Permit}
 use Rattle.permit.specs.declared.Permit.the-variants.{Write, Refused}
 use Rattle.permit.specs.Permit.{permitOf}
@@ -24,13 +25,22 @@ stored row w s =
 unfoldable pub applied : ℕ → ℕ → Plant → Plant
 applied row w p =
     pick (ltb row MODE) (withSettings (stored row w (p .settings)) p)
-    (pick (eqb row MODE) (pick (eqb (p .mode) w) p (withMode w (withScmd 0 p)))
-    (pick (eqb row SCMD) (withScmd w p) p))
+    (pick (eqb row MODE) (pick (eqb (p .drive .mode) w) p (withDrive (withMode w (withScmd 0 (p .drive))) p))
+    (pick (eqb row SCMD) (withDrive (withScmd w (p .drive)) p) p))
 
 -- "Refusals 2 to 9 change no state but the time sum"
 abbrev pub after : Permit → Plant → Plant
 after (Write change) p = applied (change .row .0) (change .word) p
 after (Refused refusal) p = p
 
-unfoldable pub written : Plant → ℕ → ℕ → Wrote
+-- the plant after a write, and what was written or the refusal
+pub record Written : Type 0 where
+  pub plant : Plant
+  pub permit : Permit
+
+-- what the code hands back, with the settings that it was lent
+abbrev pub wroteIn : List ℕ → Wrote → Written
+wroteIn words w = record { plant = plantOf words (w .drive); permit = w .permit }
+
+unfoldable pub written : Plant → ℕ → ℕ → Written
 written p row w = record { plant = after (permitOf p row w) p; permit = permitOf p row w }

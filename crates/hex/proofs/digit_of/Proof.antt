@@ -1,23 +1,29 @@
--- `hex::digit_of` meets its contract: each arm is the one that the definition picks. Assumes nothing.
+-- `hex::digit_of` meets its contract: each arm is the digit that the definition has of its number. Assumes nothing.
 use borrow.Author.Needs.{needs}
-use Rattle.base.proofs.Tests.{tests}
+use Rattle.base.proofs.Arms.{rest-none, upFrom}
 use Rattle.hex.specs.Hex.{digitOf}
+use Rattle.hex.proofs.Characters.{digit-at, digit-last}
 use Rattle.hex.proofs.digit_of.Statement.{statement}
 use Rattle.hex.proofs.digit_of.Tie as tie
 
-add-result : tie.Need-add-result
-add-result c = search needs
-
-add-result-2 : tie.Need-add-result-2
-add-result-2 c = search needs
-
-returns : tie.Need-returns
-unfolding digitOf
-returns c = search tests
-
-returns-2 : tie.Need-returns-2
-unfolding digitOf
-returns-2 c = search tests
-
 pub digit-of-spec : {M : Type 1} → statement M
-digit-of-spec = tie.close (tie.spec add-result add-result-2 returns returns-2)
+unfolding digitOf
+digit-of-spec =
+    tie.close
+    (tie.spec
+    (λ c. search digit-at)
+    (λ c. search digit-at)
+    (λ c. search digit-at)
+    (λ c. search digit-at)
+    (λ c. search digit-at)
+    (λ c. search digit-at)
+    (λ c. search digit-at)
+    (λ c. search digit-at)
+    (λ c. search digit-at)
+    (λ c. search digit-at)
+    (λ c. search digit-at)
+    (λ c. search digit-at)
+    (λ c. search digit-at)
+    (λ c. search digit-at)
+    (λ c. search digit-at)
+    (λ c. digit-last _ (rest-none _ (upFrom 0 15) (c .match .rest) .1)))

@@ -1,6 +1,6 @@
 -- `nfo_service::serve` meets its contract: each kind of message by its own routine. Assumes nothing.
 use borrow.Author.Needs.{needs}
-use Rattle.nfo_service.specs.Serve.{served}
+use Rattle.nfo_service.proofs.Laws.{served-enquiry, served-select}
 use Rattle.nfo_service.proofs.serve.Statement.{statement}
 use Rattle.nfo_service.proofs.serve.Tie as tie
 
@@ -17,12 +17,10 @@ select-requires : tie.Need-select-requires
 select-requires c κs = search needs
 
 returns : tie.Need-returns
-unfolding served
-returns c = rw (c .before .before .message .given .1) (c .enquire .ensures)
+returns c = search served-enquiry
 
 returns-2 : tie.Need-returns-2
-unfolding served
-returns-2 c = rw (c .before .before .message2 .given .1) (c .select .ensures)
+returns-2 c = search served-select
 
 pub serve-spec : {M : Type 1} → statement M
 serve-spec =

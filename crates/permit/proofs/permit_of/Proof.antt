@@ -2,13 +2,14 @@
 use borrow.Author.Needs.{needs}
 use Rattle.base.proofs.Tests.{tests}
 use Rattle.drive.specs.Faults.{flagStands}
+use Rattle.permit.specs.Refusals.{allowed}
 use Rattle.permit.specs.Permit.{permitOf}
 use Rattle.permit.proofs.Laws.{permit-no, permit-yes}
 use Rattle.permit.proofs.permit_of.Statement.{statement}
 use Rattle.permit.proofs.permit_of.Tie as tie
 
 pub permit-of-spec : {M : Type 1} → statement M
-unfolding flagStands permitOf
+unfolding flagStands allowed permitOf
 permit-of-spec =
     tie.close
     (tie.spec

@@ -11,10 +11,10 @@ use Rattle.ascii_scan.proofs.scanning.scan.Statement.{statement}
 use Rattle.ascii_scan.proofs.scanning.scan.Tie as tie
 
 abbrev Inv-loop : tie.InvT-loop
-Inv-loop bytes held₀ n₀ i₀ held n i = Scanning feeding (record { bytes = held₀; len = n₀ }) bytes (record { bytes = held; len = n }) i
+Inv-loop held₀ len bytes n₀ i₀ held n i = Scanning feeding (record { bytes = held₀; len = len }) bytes (record { bytes = held; len = n }) i
 
 abbrev μ-loop : tie.MeasureT-loop
-μ-loop bytes held₀ n₀ i₀ held n i = length bytes - i
+μ-loop held₀ len bytes n₀ i₀ held n i = length bytes - i
 
 loop-holds : tie.Need-loop-holds Inv-loop μ-loop
 loop-holds c = (omega arith, refl)

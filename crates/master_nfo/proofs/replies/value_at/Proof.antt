@@ -1,5 +1,5 @@
 -- `master_nfo::value_at` meets its contract: what `pair_value` told of both pairs is what the definition joins. Assumes nothing.
-use Rattle.nfo.proofs.Parsed.{value-high-none, value-low-none, value-word}
+use Rattle.nfo_parts.proofs.Parsed.{value-high-none, value-low-none, value-word}
 use borrow.Author.Needs.{needs}
 use Rattle.master_nfo.proofs.replies.value_at.Statement.{statement}
 use Rattle.master_nfo.proofs.replies.value_at.Tie as tie

@@ -1,4 +1,4 @@
--- `master_nfo::select_to` meets its contract: `nfo::reply` puts the bytes that come after the 04 into their places. Assumes nothing.
+-- `master_nfo::select_to` meets its contract: `nfo_parts::reply` puts the bytes that come after the 04 into their places. Assumes nothing.
 use Rattle.master_nfo.proofs.Asked.{select-made}
 use borrow.Author.Needs.{needs}
 use Rattle.master_nfo.proofs.requests.select_to.Statement.{statement}

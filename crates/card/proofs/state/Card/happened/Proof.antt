@@ -1,4 +1,4 @@
--- `card::Card::happened` meets its contract: the plant is put in place. Assumes nothing.
+-- `card::Card::happened` meets its contract: the drive is put in place. Assumes nothing.
 use mathlib.Core.Path.{refl}
 use Rattle.card.specs.Events.{happened}
 use Rattle.card.proofs.state.Card.happened.Statement.{statement}

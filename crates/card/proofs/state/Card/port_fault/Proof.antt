@@ -1,4 +1,4 @@
--- `card::Card::port_fault` meets its contract: the bit in SioErr, and what the fault does to the plant. Assumes nothing.
+-- `card::Card::port_fault` meets its contract: the bit in SioErr, and what the fault does to the drive. Assumes nothing.
 use borrow.Author.Needs.{needs}
 use Rattle.card.proofs.Laws.{faulted-of}
 use Rattle.card.proofs.state.Card.port_fault.Statement.{statement}

@@ -1,0 +1,52 @@
+-- `modbus::replies::copy_in` meets its contract. The invariant: stores of all bytes left would give the whole. Assumes nothing.
+use Prim.Native.Nat.{_-_}
+use borrow.Author.Needs.{needs}
+use lib.ListN.{length}
+use Rattle.modbus.proofs.Copies.{Copying, copy-starts, copy-again, copy-count, copy-stores}
+use Rattle.modbus.proofs.replies.copy_in.Statement.{statement}
+use Rattle.modbus.proofs.replies.copy_in.Tie as tie
+
+abbrev Inv-loop : tie.InvT-loop
+Inv-loop bytes out₀ i₀ out i = Copying bytes out₀ out i
+
+abbrev μ-loop : tie.MeasureT-loop
+μ-loop bytes out₀ i₀ out i = length bytes - i
+
+loop-holds : tie.Need-loop-holds Inv-loop μ-loop
+loop-holds c = copy-starts _ _
+
+shared-slice-read-put : tie.Need-shared-slice-read-put Inv-loop μ-loop
+shared-slice-read-put c = search needs
+
+put-requires : tie.Need-put-requires Inv-loop μ-loop
+put-requires c κs = search needs
+
+add-i : tie.Need-add-i Inv-loop μ-loop
+add-i c = search needs
+
+loop-less : tie.Need-loop-less Inv-loop μ-loop
+loop-less c = search needs
+
+loop-again : tie.Need-loop-again Inv-loop μ-loop
+loop-again c = search copy-again
+
+same-length : tie.Need-same-length Inv-loop μ-loop
+same-length c = search needs
+
+returns : tie.Need-returns Inv-loop μ-loop
+returns c = search (copy-count, copy-stores)
+
+pub copy-in-spec : {M : Type 1} → statement M
+copy-in-spec =
+    tie.close
+    (tie.spec
+    Inv-loop
+    μ-loop
+    loop-holds
+    shared-slice-read-put
+    put-requires
+    add-i
+    loop-less
+    loop-again
+    same-length
+    returns)
