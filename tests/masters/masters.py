@@ -1,0 +1,331 @@
+"""Real masters, and bytes by hand, against the program `line` on a pair of ptys.
+
+Usage: masters.py PROGRAM, where `PROGRAM line ..` runs the program. Exit status 0 where each answer, and each line printed, is what document 01 says.
+A master that this machine does not have is skipped, with the reason.
+"""
+import os
+import re
+import shutil
+import signal
+import subprocess
+import sys
+import tempfile
+import time
+
+import steps
+from port import PATIENCE, Port
+from steps import COILS, INPUT, MANY, ONE, READ, Put
+
+FRAMED = {"rtu": steps.rtu, "ascii": steps.ascii}
+# as the README has it: a tenth of a second of silence ends a read
+SETTINGS = {"rtu": ["raw", "-echo", "min", "255", "time", "1"], "ascii": ["raw", "-echo"], "nfo": ["raw", "-echo"]}
+# how long nothing comes where nothing is to come; on RTU it is the silence around a frame, too
+SILENCE = 1.0
+
+
+class Mbpoll:
+    """libmodbus, by the command that a user types. The bytes that it sent and got are in what it prints."""
+
+    # libmodbus's words for the exceptions
+    WORDS = {1: "Illegal function", 2: "Illegal data address", 3: "Illegal data value", 4: "Slave device or server failure"}
+
+    def __init__(self, device):
+        self.device = device
+
+    def can_ask(self, step):
+        """It writes one register by 06, and a pair of them, which it takes for a 32-bit number, by 16. What it cannot ask is asked by hand."""
+        return step.function not in (ONE, MANY) or len(step.asked) == (1 if step.function == ONE else 2)
+
+    def ask(self, step):
+        table = {READ: "4", INPUT: "3", ONE: "4", MANY: "4:int", COILS: "0"}[step.function]
+        values = []
+        count = 1
+        if step.function == ONE:
+            values = step.asked
+        elif step.function == MANY:
+            values = [step.asked[0] | step.asked[1] << 16]
+        else:
+            count = step.asked
+            if count == 2 and step.words:  # a 32-bit number, the low word first unless -B is said
+                table, count = table + ":int", 1
+        words = ["mbpoll", "-v", "-m", "rtu", "-a", "1", "-b", "9600", "-P", "none", "-o", "10", "-0", "-1", "-t", table, "-r", str(step.register)]
+        words += ([] if values else ["-c", str(count)]) + [self.device] + [str(value) for value in values]
+        ran = subprocess.run(words, capture_output=True, text=True, timeout=PATIENCE)
+        return self.heard(step, ran.stdout, ran.stderr)
+
+    def heard(self, step, told, errors):
+        sent = bytes.fromhex("".join(re.findall(r"\[([0-9A-F]{2})\]", told)))
+        got = bytes.fromhex("".join(re.findall(r"<([0-9A-F]{2})>", told)))
+        assert sent[1:4] == bytes([step.function]) + step.register.to_bytes(2, "big"), "mbpoll asked %s" % sent.hex()
+        assert len(got) > 2, "mbpoll heard no reply: %s" % errors
+        if got[1] & 0x80:
+            assert self.WORDS[got[2]] in errors, "mbpoll said: %s" % errors
+            return got[2]
+        assert not errors, "mbpoll said: %s" % errors
+        if step.words is None:
+            assert "Written 1 references." in told, told
+            return None
+        numbers = [int(number) for number in re.findall(r"^\[\d+\]:\s+(-?\d+)", told, re.M)]
+        return [numbers[0] & 0xFFFF, numbers[0] >> 16] if len(step.words) == 2 else numbers
+
+    def close(self):
+        pass
+
+
+class Pymodbus:
+    def __init__(self, device, framer):
+        from pymodbus.client import ModbusSerialClient
+
+        self.client = ModbusSerialClient(device, framer=framer, baudrate=9600, parity="N", timeout=10, retries=0)
+        assert self.client.connect(), "pymodbus does not open the port"
+
+    def can_ask(self, step):
+        return True
+
+    def ask(self, step):
+        routine = {
+            READ: self.client.read_holding_registers,
+            INPUT: self.client.read_input_registers,
+            ONE: self.client.write_register,
+            MANY: self.client.write_registers,
+            COILS: self.client.read_coils,
+        }[step.function]
+        told = routine(step.register, step.asked[0] if step.function == ONE else step.asked, slave=1)
+        if told.isError():
+            assert hasattr(told, "exception_code"), "pymodbus heard no reply: %s" % told
+            assert told.function_code == 0x80 | step.function, "pymodbus heard function %d" % told.function_code
+            return told.exception_code
+        if step.words is not None:
+            return told.registers
+        assert told.address == step.register and (told.value == step.asked[0] if step.function == ONE else told.count == len(step.asked)), str(told)
+        return None
+
+    def close(self):
+        self.client.close()
+
+
+def play(program, protocol, name, master_on):
+    """Plays the steps by a master, and holds each answer, and at the end each line printed, to document 01."""
+    framed = FRAMED[protocol]
+    asked, expected = 0, []
+    with Port(program, protocol, SETTINGS[protocol]) as port:
+        master = master_on(port.device)
+        for step in steps.steps(framed):
+            if isinstance(step, Put):
+                port.put(step.data)
+                port.silent(SILENCE)
+                if step.line:
+                    expected.append(step.line)
+                continue
+            right = framed(b"\1" + step.reply())
+            expected.append("%d %s" % (step.outcome, right.hex().upper()))
+            if master.can_ask(step):
+                told = master.ask(step)
+                assert told == step.answer(), "%s, %s: heard %s, and not %s" % (name, step, told, step.answer())
+                asked += 1
+            else:
+                port.put(framed(b"\1" + step.request()))
+                assert port.reply(len(right)) == right, str(step)
+        master.close()
+        same_lines(name, port.lines(), expected)
+    print("masters: %s: %d requests answered as document 01 says, %d lines" % (name, asked, len(expected)))
+
+
+def same_lines(name, printed, expected):
+    for place, (line, right) in enumerate(zip(printed, expected), 1):
+        assert line == right, "%s, line %d: printed %s, and not %s" % (name, place, line, right)
+    assert len(printed) == len(expected), "%s: %d lines, and not %d" % (name, len(printed), len(expected))
+
+
+def libmodbus_rtu(program):
+    if not shutil.which("mbpoll"):
+        return "mbpoll is not on this machine and could not be installed"
+    play(program, "rtu", "libmodbus on RTU", Mbpoll)
+
+
+def pymodbus_missing():
+    try:
+        import serial
+        from pymodbus.client import ModbusSerialClient
+        from pymodbus.framer.ascii_framer import ModbusAsciiFramer
+        from pymodbus.framer.rtu_framer import ModbusRtuFramer
+    except ImportError as reason:
+        return "pymodbus 3.0 with pyserial is not on this machine and could not be installed (%s)" % reason
+
+
+def pymodbus_rtu(program):
+    if pymodbus_missing():
+        return pymodbus_missing()
+    from pymodbus.framer.rtu_framer import ModbusRtuFramer
+
+    play(program, "rtu", "pymodbus on RTU", lambda device: Pymodbus(device, ModbusRtuFramer))
+
+
+def pymodbus_ascii(program):
+    if pymodbus_missing():
+        return pymodbus_missing()
+    from pymodbus.framer.ascii_framer import ModbusAsciiFramer
+
+    play(program, "ascii", "pymodbus on ASCII", lambda device: Pymodbus(device, ModbusAsciiFramer))
+
+
+def two_scraps(program):
+    """A frame that comes in two scraps is one frame, since only silence ends a read. A machine that is slow between the two may part them: then again."""
+    request, reply = bytes.fromhex("010302940001C45E"), bytes.fromhex("01030200017984")  # case 7's MODE, as a frame
+    with Port(program, "rtu", SETTINGS["rtu"]) as port:
+        for _ in range(20):
+            port.put(request[:3])
+            time.sleep(0.03)
+            port.put(request[3:])
+            try:
+                port.silent(SILENCE)
+            except AssertionError:
+                break
+        same_lines("a frame in two scraps", port.lines(), ["0 " + reply.hex().upper()])
+    print("masters: a frame in two scraps is one frame")
+
+
+def bcc(body):
+    value = 0
+    for byte in body:
+        value ^= byte
+    return bytes([value])
+
+
+def enquiry(parameter, address=1):
+    return b"\4" + bytes([32 + address]) + parameter.encode() + b"\5"
+
+
+def select(parameter, value, address=1):
+    body = b"%s=%04X\3" % (parameter.encode(), value)
+    return b"\4" + bytes([32 + address]) + b"\2" + body + bcc(body)
+
+
+def reply(parameter, value):
+    body = b"%s=%04X\3" % (parameter.encode(), value)
+    return b"\x21\2" + body + bcc(body)
+
+
+ACK, NAK = b"\x21\6", b"\x21\x15"
+
+
+def nfo_exchanges():
+    """Bytes for the card, its reply, and the outcomes of the messages that it takes of them."""
+    accel = bytes.fromhex("0421453030314405")  # case 2
+    assert accel == enquiry("E001D") and bytes.fromhex("210245303031443D30303332030F") == reply("E001D", 50)
+    wrong_bcc = select("E001D", 0x64)[:-1] + b"\x0D"
+    return [
+        (accel, reply("E001D", 50), [0]),
+        (bytes.fromhex("04210245303031393D303036340371"), NAK, [2]),  # case 1
+        (select("E001D", 0x64), ACK, [0]),  # case 3
+        (wrong_bcc, b"", []),
+        (accel, reply("E001D", 0x64), [0]),
+        (select("E0039", 0xB1E0), ACK, [0]),  # case 4
+        (select("E0039", 0xB1DF), NAK, [4]),
+        (enquiry("E0039"), reply("E0039", 0xB1E0), [0]),
+        (select("E001D", 0x93) + accel[1:], ACK, [0]),  # case 5: the BCC is 04, and the ENQUIRY has no 04 of its own
+        (accel, reply("E001D", 0x93), [0]),
+        (bytes.fromhex("04210245303031443D3030393403") + accel, reply("E001D", 0x93), [0]),  # case 6
+        # half a message, noise, a damaged message before a good one; and two at once
+        (select("E001D", 0x32)[:9] + accel, reply("E001D", 0x93), [0]),
+        (b"\xFF\x00\x04\x04\x21garbage\x05" + accel, reply("E001D", 0x93), [0]),
+        (select("E001D", 0x32).replace(b"0032", b"0033") + accel, reply("E001D", 0x93), [0]),
+        (accel + select("E001C", 0x32), reply("E001D", 0x93) + ACK, [0, 0]),
+        # read-only, not hex, no such parameter
+        (select("E00B6", 1), NAK, [3]),
+        (b"\4\x21\2E001D=00G4\3" + bcc(b"E001D=00G4\3"), NAK, [8]),
+        (enquiry("E0019"), NAK, [2]),
+        # SCMD only at MODE 3, and its run values only with DIN1 active, which it is not at start
+        (enquiry("E00E9"), reply("E00E9", 24), [0]),
+        (select("E00AD", 0), NAK, [7]),
+        (select("E0029", 3), ACK, [0]),
+        (select("E00AD", 129), NAK, [7]),
+        (select("E00AD", 0), ACK, [0]),
+        (enquiry("E00E9"), reply("E00E9", 37), [0]),
+        # another address, a broadcast read, a broadcast write
+        (enquiry("E001D", 2) + enquiry("E001D", 95), b"", [1, 1]),
+        (select("E001D", 75, 95), b"", [0]),
+        (accel, reply("E001D", 75), [0]),
+    ]
+
+
+def nfo_serial(program):
+    expected = []
+    with Port(program, "nfo", SETTINGS["nfo"]) as port:
+        exchanges = nfo_exchanges()
+        for data, right, outcomes in exchanges:
+            port.put(data)
+            check_reply(port, data, right)
+            expected += line_texts(right, outcomes)
+        for byte in enquiry("E001D"):  # byte by byte
+            port.put(bytes([byte]))
+        check_reply(port, b"an ENQUIRY byte by byte", reply("E001D", 75))
+        expected += line_texts(reply("E001D", 75), [0])
+        same_lines("NFO serial", port.lines(), expected)
+    print("masters: NFO serial: %d exchanges answered as document 01 says, %d lines" % (len(exchanges) + 1, len(expected)))
+
+
+def check_reply(port, data, right):
+    told = port.reply(len(right))
+    assert told == right, "NFO serial, %s: heard %s, and not %s" % (data.hex(), told.hex(), right.hex())
+    port.silent(0.1 if right else SILENCE)
+
+
+def line_texts(right, outcomes):
+    """The lines of the messages taken: a REPLY has 14 bytes, ACK and NAK have 2, and where nothing is replied there is a `-` for each."""
+    texts = []
+    for outcome in outcomes:
+        length = 14 if right[1:2] == b"\2" else 2
+        texts.append("%d %s" % (outcome, right[:length].hex().upper() or "-"))
+        right = right[length:]
+    assert not right
+    return texts
+
+
+def wrong_arguments(program):
+    """Each is told in one line on standard error, nothing is printed, and what the device holds stays."""
+    usage = "line: usage: line PROTOCOL DEVICE, PROTOCOL is nfo, rtu or ascii\n"
+    with tempfile.TemporaryDirectory() as folder:
+        device = os.path.join(folder, "device")
+        with open(device, "wb") as held:
+            held.write(enquiry("E001D"))
+        nowhere = os.path.join(folder, "nowhere")
+        for words, said in [
+            ([], usage),
+            (["nfo"], usage),
+            (["nfo", device, "9600"], usage),
+            (["tcp", device], usage),
+            (["NFO", device], usage),
+            (["", device], usage),
+            (["rtu", nowhere], nowhere + ": No such file or directory\n"),
+            (["ascii", folder], folder + ": Is a directory\n"),
+            (["nfo", "/dev/null"], ""),  # a device that is at its end
+        ]:
+            ran = subprocess.run([program, "line", *words], stdin=subprocess.DEVNULL, capture_output=True, text=True, timeout=PATIENCE)
+            assert (ran.returncode, ran.stdout, ran.stderr) == (0, "", said), "line %s: %s" % (" ".join(words), ran)
+        with open(device, "rb") as held:
+            assert held.read() == enquiry("E001D"), "the device was written to"
+        assert not os.path.exists(nowhere)
+    print("masters: wrong arguments are told, and nothing is opened")
+
+
+def out_of_time(number, frame):
+    """Ends the test, and what it started; `timeout` may send the signal twice."""
+    signal.signal(signal.SIGTERM, signal.SIG_IGN)
+    sys.exit("masters: out of time")
+
+
+def main():
+    signal.signal(signal.SIGTERM, out_of_time)
+    program = sys.argv[1]
+    wrong_arguments(program)
+    if not shutil.which("socat"):
+        print("masters: skipped: socat is not on this machine and could not be installed")
+        return
+    for test in (nfo_serial, libmodbus_rtu, pymodbus_rtu, pymodbus_ascii, two_scraps):
+        reason = test(program)
+        if reason:
+            print("masters: %s: skipped: %s" % (test.__name__, reason))
+
+
+main()

@@ -1,0 +1,175 @@
+"""What a Modbus master asks of a fresh card at address 1, one step after another, and what document 01 says of each."""
+import random
+
+READ, INPUT, ONE, MANY, COILS = 3, 4, 6, 16, 1
+
+# document 01's outcomes, and the exception of each
+EXCEPTION = {2: 2, 3: 2, 4: 3, 7: 4, 9: 1}
+
+
+def register(adi):
+    """ "Register = 528 + 4 x (ADI - 1)" """
+    return 528 + 4 * (adi - 1)
+
+
+P_NOM, N_NOM, I_MAGN, ACCEL, RETARD = register(301), register(304), register(306), register(308), register(309)
+R_FIX1, SI_BAUD, MB_ADR, SPD_NUM, SPD_DEN = register(313), register(315), register(319), register(320), register(321)
+MODE, SCMD, INV_ST_ACK, INV_ST = register(34), register(35), register(38), 0x02A5
+SIO_ERR, FRQ_ACT, I_RMS, OP_TIME = register(323), register(125), register(120), register(39)
+
+
+class Step:
+    """A request and its outcome. `asked` is a count to read, or the words to write; `words` is what a read tells."""
+
+    def __init__(self, function, register, asked, outcome=0, words=None):
+        self.function, self.register, self.asked, self.outcome, self.words = function, register, asked, outcome, words
+
+    def __str__(self):
+        return "function %d, register %04Xh, %s" % (self.function, self.register, self.asked)
+
+    def answer(self):
+        """What a master is to hear: the words of a read, none of a write, or an exception's number."""
+        return EXCEPTION[self.outcome] if self.outcome else self.words
+
+    def request(self):
+        """The data unit of the request."""
+        head = bytes([self.function]) + self.register.to_bytes(2, "big")
+        if self.function == MANY:
+            return head + len(self.asked).to_bytes(2, "big") + bytes([2 * len(self.asked)]) + b"".join(word.to_bytes(2, "big") for word in self.asked)
+        return head + (self.asked[0] if self.function == ONE else self.asked).to_bytes(2, "big")
+
+    def reply(self):
+        """The data unit of the reply."""
+        if self.outcome:
+            return bytes([0x80 | self.function, EXCEPTION[self.outcome]])
+        if self.words is not None:
+            return bytes([self.function, 2 * len(self.words)]) + b"".join(word.to_bytes(2, "big") for word in self.words)
+        last = self.asked[0] if self.function == ONE else len(self.asked)
+        return bytes([self.function]) + self.register.to_bytes(2, "big") + last.to_bytes(2, "big")
+
+
+class Put:
+    """Bytes on the line between two requests. The card replies nothing; `line` is what it prints, if it takes them for a message."""
+
+    def __init__(self, what, data, line=None):
+        self.what, self.data, self.line = what, data, line
+
+
+def reads(function, register, words):
+    return Step(function, register, len(words), words=words)
+
+
+def writes(function, register, *words):
+    return Step(function, register, list(words))
+
+
+def refused(outcome, function, register, asked):
+    return Step(function, register, asked, outcome=outcome)
+
+
+def crc(body):
+    """ "start FFFFh; for each byte exclusive-or it in, then eight times shift right by one and, if a 1 fell out, exclusive-or A001h" """
+    value = 0xFFFF
+    for byte in body:
+        value ^= byte
+        for _ in range(8):
+            value = value >> 1 ^ (0xA001 if value & 1 else 0)
+    return value
+
+
+def rtu(body):
+    """The frame of an address and a data unit."""
+    return body + crc(body).to_bytes(2, "little")
+
+
+def ascii(body):
+    """The same as a message of Modbus ASCII."""
+    return b":" + (body + bytes([-sum(body) % 256])).hex().upper().encode() + b"\r\n"
+
+
+def write_accel(address, value):
+    return bytes([address, ONE]) + ACCEL.to_bytes(2, "big") + value.to_bytes(2, "big")
+
+
+def spoilt(framed):
+    """What may stand on a line between two requests, after Accel was written 100. None of it changes Accel but the broadcast, which writes 75."""
+    whole = framed(write_accel(1, 200))
+    middle = len(whole) // 2
+    noise = bytes(random.Random(485).randrange(256) for _ in range(40))
+    return [
+        Put("half a message", whole[:middle]),
+        reads(READ, ACCEL, [100]),
+        Put("noise", noise),
+        reads(READ, ACCEL, [100]),
+        Put("a damaged value", whole[:middle] + bytes([whole[middle] ^ 1]) + whole[middle + 1:]),
+        reads(READ, ACCEL, [100]),
+        Put("a lost byte", whole[:3] + whole[4:]),
+        reads(READ, ACCEL, [100]),
+        Put("a write to station 2", framed(write_accel(2, 200)), line="1 -"),
+        reads(READ, ACCEL, [100]),
+        Put("a broadcast read", framed(bytes([0, READ]) + INV_ST_ACK.to_bytes(2, "big") + b"\0\1"), line="1 -"),
+        Put("a broadcast write", framed(write_accel(0, 75)), line="0 -"),
+        reads(READ, ACCEL, [75]),
+    ]
+
+
+def steps(framed):
+    """Document 01's column Start, what may be written, what may not, and why; `framed` makes a message of an address and a data unit."""
+    return [
+        reads(READ, MODE, [1]),
+        reads(READ, INV_ST, [24]),  # standing at MODE 1
+        reads(INPUT, ACCEL, [50]),
+        reads(READ, N_NOM, [1500]),
+        reads(READ, SI_BAUD, [128]),
+        reads(INPUT, MB_ADR, [1]),
+        reads(READ, FRQ_ACT, [0]),
+        reads(INPUT, SIO_ERR, [0]),
+        # 16 bits, by 06 and by 16
+        writes(ONE, ACCEL, 100),
+        reads(READ, ACCEL, [100]),
+        writes(MANY, RETARD, 250),
+        reads(INPUT, RETARD, [250]),
+        writes(ONE, R_FIX1, 0xB1E0),  # -20000
+        reads(READ, R_FIX1, [0xB1E0]),
+        writes(ONE, I_MAGN, 999),
+        refused(4, ONE, I_MAGN, [1000]),  # I-limt is 1000
+        reads(READ, I_MAGN, [999]),
+        # 32 bits, low word first
+        reads(READ, SPD_NUM, [1, 0]),
+        writes(MANY, SPD_NUM, 0x4240, 0x000F),  # 1000000
+        reads(READ, SPD_NUM, [0x4240, 0x000F]),
+        refused(4, MANY, SPD_NUM, [0x4241, 0x000F]),  # 1000001
+        writes(MANY, SPD_DEN, 0, 1),  # 65536
+        reads(INPUT, SPD_DEN, [0, 1]),
+        reads(INPUT, OP_TIME, [0, 0]),
+        reads(READ, I_RMS, [0, 0]),
+        # no such register, or not its span
+        refused(2, READ, 0, 1),
+        refused(2, INPUT, SPD_NUM, 1),
+        refused(2, READ, SPD_NUM + 1, 1),
+        refused(2, READ, INV_ST_ACK, 2),
+        refused(2, ONE, SPD_DEN, [1]),
+        # read-only
+        refused(3, ONE, FRQ_ACT, [5]),
+        refused(3, MANY, OP_TIME, [1, 0]),
+        # a value that is not allowed
+        refused(4, ONE, MODE, [4]),
+        refused(4, ONE, R_FIX1, [0xB1DF]),
+        refused(4, ONE, SI_BAUD, [17]),
+        # a function that there is not
+        refused(9, COILS, MODE, 1),
+        *spoilt(framed),
+        # SCMD only at MODE 3, and its run values only with DIN1 active, which it is not at start
+        refused(7, ONE, SCMD, [0]),
+        writes(ONE, MODE, 3),
+        reads(READ, INV_ST, [37]),
+        writes(ONE, SCMD, 0),
+        refused(7, ONE, SCMD, [129]),
+        refused(7, ONE, SCMD, [257]),
+        reads(READ, SCMD, [0]),
+        writes(ONE, P_NOM, 200),  # an Init row, not running
+        reads(READ, P_NOM, [200]),
+        reads(READ, INV_ST_ACK, [37]),
+        writes(ONE, MODE, 2),
+        reads(READ, INV_ST, [33]),
+    ]
