@@ -1,0 +1,5 @@
+pub mod Event
+pub mod Plain
+pub mod Restart
+pub mod Start
+pub mod Receive

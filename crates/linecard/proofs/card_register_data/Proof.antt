@@ -1,0 +1,18 @@
+-- `linecard::card_register_data` meets its contract: the span that `rtu::register_span` tells is from its first place on as long as the register data.
+-- Assumes nothing.
+use borrow.Author.Needs.{needs}
+use Rattle.linecard.proofs.Laws.{length-told, place-told, part-told}
+use Rattle.linecard.proofs.card_register_data.Statement.{statement}
+use Rattle.linecard.proofs.card_register_data.Tie as tie
+
+register-span-requires : tie.Need-register-span-requires
+register-span-requires c κs = search needs
+
+sub-t6 : tie.Need-sub-t6
+sub-t6 c = length-told _ _ (c .register-span .ensures)
+
+returns : tie.Need-returns
+returns c = (place-told _ _ (c .before .register-span .ensures), part-told _ _ (c .before .register-span .ensures))
+
+pub card-register-data-spec : {M : Type 1} → statement M
+card-register-data-spec = tie.close (tie.spec register-span-requires sub-t6 returns)
