@@ -1,0 +1,31 @@
+-- A call uses bytes that are there, and one at least where there is one. Assumes nothing.
+use mathlib.Core.Path.{_≡_, ap}
+use mathlib.Core.List.{List}
+use Prim.Native.Nat.{ℕ, _+_, _-_, _≤_, _<_}
+use native.Mathlib.Omega.{arith}
+use lib.ListN.{length, take, drop, length-take, length-drop}
+use Rattle.turn.specs.Turn.{turnOf}
+use Rattle.turn.specs.Core.{cardOf, turnIn}
+use Rattle.turn.specs.declared.Core.{Core}
+use Rattle.turn.specs.declared.Turn.{Turn}
+use Rattle.turn.specs.declared.CoreTurn.{CoreTurn}
+use Rattle.receive.specs.Receive.{received}
+use Rattle.receive.proofs.Laws.{received-used, received-uses}
+
+module _ (held words held′ words′ : List ℕ) (k : Core) (bytes : List ℕ) (room : ℕ) (t : CoreTurn)
+    (turns : turnIn held′ words′ t ≡ turnOf (received (cardOf held words k) bytes room)) where
+  same-used : t .used ≡ received (cardOf held words k) bytes room .used
+  same-used = ap (λ (x : Turn). x .used) turns
+
+  pub used-within : t .used ≤ length bytes
+  used-within = omega (arith, same-used, received-used (cardOf held words k) bytes room)
+
+  pub used-some : 19 ≤ room → 0 < length bytes → 0 < t .used
+  used-some h l = omega (arith, same-used, received-uses (cardOf held words k) bytes room h l)
+
+-- a round comes nearer to the end of the workload
+pub piece-less : (bytes : List ℕ) (at end used : ℕ) → at < end → end ≤ length bytes → (0 < length (take (end - at) (drop at bytes)) → 0 < used)
+    → length bytes - (at + used) < length bytes - at
+piece-less bytes at end used l h some =
+    let n : length (take (end - at) (drop at bytes)) ≡ end - at = simp (length-take, length-drop) (omega arith) in
+    omega (arith, some (omega (arith, n)))

@@ -1,0 +1,143 @@
+#!/usr/bin/env python3
+"""Instructions a message of the program `speed` and of a card by hand in C, over the same workloads.
+
+Each program runs few rounds and more rounds; the difference of the two counts is what the rounds between cost, so that set-up is not counted. On x86-64 valgrind's
+callgrind counts; elsewhere the kit's emulator writes a line for each instruction that it runs, and the lines are counted. Both programs print a sum over the
+outcome, the used bytes and the reply's length of every call: the sums must be the same. With --write the table goes to docs/SPEED.md; without, ours must not be
+above the numbers there."""
+import os
+import platform
+import re
+import shutil
+import subprocess
+import sys
+import tempfile
+
+HERE = os.path.dirname(os.path.abspath(__file__))
+TOP = os.path.dirname(os.path.dirname(HERE))
+PAGE = os.path.join(TOP, "docs", "SPEED.md")
+ROUNDS = (1, 2)
+MESSAGES = 1000
+NATIVE = platform.machine() == "x86_64"
+COMPILER = "gcc" if NATIVE else "x86_64-linux-gnu-gcc"
+MARGIN = 1.01  # another build of the same compiler may move a few instructions
+
+
+def skip(reason):
+    print("speed: skipped: " + reason)
+    sys.exit(0)
+
+
+def fail(reason):
+    print("speed: FAILED: " + reason)
+    sys.exit(1)
+
+
+def kit():
+    """The emulator, its loader and its libraries, for processors that are no x86-64."""
+    home = os.path.dirname(os.path.dirname(subprocess.check_output(["rt", "doc"], text=True).strip()))
+    tools = os.path.join(home, "on", platform.machine(), "toolchain")
+    return os.path.join(tools, "bin", "qemu-x86_64"), os.path.join(tools, "lib")
+
+
+def build(folder, name, bit_step):
+    """The C card; with bit_step its CRC goes bit by bit, as ours does by definition, in place of the table."""
+    source = open(os.path.join(HERE, "reference", "card.c")).read()
+    if bit_step:
+        by_table = "crc = crc >> 8 ^ crc_table[(crc ^ bytes[i]) & 0xFF];"
+        by_bits = "{ crc ^= bytes[i]; for (int k = 0; k < 8; k++) crc = crc & 1 ? crc >> 1 ^ 0xA001 : crc >> 1; }"
+        if source.count(by_table) != 1:
+            fail("the reference's CRC has another shape")
+        source = source.replace(by_table, by_bits)
+    card = os.path.join(folder, name + ".c")
+    open(card, "w").write(source)
+    program = os.path.join(folder, name)
+    reference = os.path.join(HERE, "reference")
+    subprocess.check_call([COMPILER, "-std=c11", "-O2", "-w", "-static", "-I", reference, "-o", program, os.path.join(reference, "bench.c"), card])
+    return program
+
+
+def command(program, ours):
+    """How a program is run here: directly, or by the emulator."""
+    if NATIVE:
+        return [program]
+    emulator, library = kit()
+    loader = [os.path.join(library, "ld-linux-x86-64.so.2"), "--library-path", library] if ours else []
+    return [emulator] + loader + [program]
+
+
+def count(folder, words, text):
+    """What the program prints, and how many instructions it ran."""
+    if NATIVE:
+        out = os.path.join(folder, "callgrind.out")
+        said = subprocess.run(["valgrind", "--tool=callgrind", "--callgrind-out-file=" + out] + words, input=text, capture_output=True, text=True, check=True).stdout
+        total = re.search(r"^(?:summary|totals): (\d+)", open(out).read(), re.M)
+        return said, int(total.group(1))
+    pipe = os.path.join(folder, "trace")
+    if not os.path.exists(pipe):
+        os.mkfifo(pipe)
+    lines = subprocess.Popen("wc -l < '%s'" % pipe, shell=True, stdout=subprocess.PIPE, text=True)
+    traced = words[:1] + ["-one-insn-per-tb", "-d", "exec,nochain", "-D", pipe] + words[1:]
+    said = subprocess.run(traced, input=text, capture_output=True, text=True, check=True).stdout
+    return said, int(lines.communicate()[0])
+
+
+def a_message(folder, words, arguments, text):
+    """Instructions a message, and the lines that the two runs print."""
+    said, counts = [], []
+    for rounds in ROUNDS:
+        line, n = count(folder, words + arguments + [str(rounds)], text)
+        said.append(line)
+        counts.append(n)
+    return (counts[1] - counts[0]) / ((ROUNDS[1] - ROUNDS[0]) * MESSAGES), said
+
+
+def table(folder):
+    ours_program = os.path.join(TOP, "target", "bin", "speed")
+    if not os.path.exists(ours_program):
+        fail("target/bin/speed is not built (rt check speed builds it)")
+    theirs = {"nfo": build(folder, "card", False), "ascii": None, "rtu": build(folder, "card_bits", True)}
+    theirs["ascii"] = theirs["nfo"]
+    rows = []
+    for protocol in ("nfo", "ascii", "rtu"):
+        reference = command(theirs[protocol], False)
+        workload = subprocess.run(reference + [protocol, "dump"], capture_output=True, text=True, check=True).stdout
+        ours, said = a_message(folder, command(ours_program, True), [protocol], workload)
+        c, told = a_message(folder, reference, [protocol], "")
+        if said != told:
+            fail("%s: ours prints %r, the C card %r" % (protocol, said, told))
+        print("speed: %-5s %5.0f instructions a message, the C card %5.0f, ratio %.2f; %s" % (protocol, ours, c, ours / c, said[1].strip()))
+        rows.append((protocol, ours, c))
+    return rows
+
+
+def written(rows):
+    names = {"nfo": "NFO serial", "ascii": "Modbus ASCII", "rtu": "Modbus RTU"}
+    out = ["| protocol | ours | C by hand | ratio |", "|-|-|-|-|"]
+    for protocol, ours, c in rows:
+        note = ", its CRC bit by bit" if protocol == "rtu" else ""
+        out.append("| %s | %.0f | %.0f%s | %.2f |" % (names[protocol], ours, c, note, ours / c))
+    return "\n".join(out) + "\n"
+
+
+def main():
+    if shutil.which(COMPILER) is None:
+        skip("no C compiler for x86-64 (%s)" % COMPILER)
+    if NATIVE and shutil.which("valgrind") is None:
+        skip("no valgrind")
+    with tempfile.TemporaryDirectory() as folder:
+        rows = table(folder)
+    page = open(PAGE).read()
+    at = re.search(r"(?<=<!-- the table -->\n).*?(?=<!-- its end -->)", page, re.S)
+    if "--write" in sys.argv[1:]:
+        open(PAGE, "w").write(page[: at.start()] + written(rows) + page[at.end():])
+        return
+    limits = re.findall(r"^\| [^|]*\| (\d+) \| (\d+)", at.group(0), re.M)
+    for (protocol, ours, _), (limit, _) in zip(rows, limits):
+        if ours > MARGIN * int(limit):
+            fail("%s: %.0f instructions a message, and docs/SPEED.md has %s; if that is meant, tests/speed/run --write" % (protocol, ours, limit))
+    if len(limits) != len(rows):
+        fail("docs/SPEED.md has no table of three rows")
+
+
+main()
