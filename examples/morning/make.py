@@ -45,4 +45,5 @@ QUEUE = [
     enquiry(1, "E00A9")[:5],                  # the rest of this one never comes
 ]
 
-sys.stdout.buffer.write(b"".join(QUEUE))
+if __name__ == "__main__":
+    sys.stdout.buffer.write(b"".join(QUEUE))
