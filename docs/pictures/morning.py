@@ -324,7 +324,7 @@ def picture():
     svg.text(out, MARGIN, 40, "A damaged morning on the line", 22, "#1c2429", bold=True)
     svg.text(out, MARGIN, 62, "What the card at address 1 hears on NFO serial, byte for byte, and what the real program made of it. Of %d bytes %d are dropped;" % (
         len(stream), sum(byte.kind == "dropped" for byte in told)), 12.5, "#37474f")
-    svg.text(out, MARGIN, 79, "%d messages are taken, each once. Nothing damaged is ever served." % len(messages), 12.5, "#37474f")
+    svg.text(out, MARGIN, 79, "%d messages are taken, each once. None of the damaged ones is served." % len(messages), 12.5, "#37474f")
     draw_legend(out, 108)
     svg.text(out, MARGIN + 22, 136, "what was asked", 11, "#5f6b72")
     svg.text(out, CELLS, 136, "the bytes that came, in hex, with their characters", 11, "#5f6b72")
