@@ -12,6 +12,7 @@ import shutil
 import subprocess
 import sys
 import tempfile
+from concurrent.futures import ThreadPoolExecutor
 
 HERE = os.path.dirname(os.path.abspath(__file__))
 TOP = os.path.dirname(os.path.dirname(HERE))
@@ -69,11 +70,11 @@ def command(program, ours):
 def count(folder, words, text):
     """What the program prints, and how many instructions it ran."""
     if NATIVE:
-        out = os.path.join(folder, "callgrind.out")
+        out = os.path.join(folder, "callgrind." + words[-1])
         said = subprocess.run(["valgrind", "--tool=callgrind", "--callgrind-out-file=" + out] + words, input=text, capture_output=True, text=True, check=True).stdout
         total = re.search(r"^(?:summary|totals): (\d+)", open(out).read(), re.M)
         return said, int(total.group(1))
-    pipe = os.path.join(folder, "trace")
+    pipe = os.path.join(folder, "trace." + words[-1])
     if not os.path.exists(pipe):
         os.mkfifo(pipe)
     lines = subprocess.Popen("wc -l < '%s'" % pipe, shell=True, stdout=subprocess.PIPE, text=True)
@@ -84,11 +85,9 @@ def count(folder, words, text):
 
 def a_message(folder, words, arguments, text):
     """Instructions a message, and the lines that the two runs print."""
-    said, counts = [], []
-    for rounds in ROUNDS:
-        line, n = count(folder, words + arguments + [str(rounds)], text)
-        said.append(line)
-        counts.append(n)
+    with ThreadPoolExecutor(len(ROUNDS)) as runs:
+        told = list(runs.map(lambda rounds: count(folder, words + arguments + [str(rounds)], text), ROUNDS))
+    said, counts = [line for line, _ in told], [n for _, n in told]
     return (counts[1] - counts[0]) / ((ROUNDS[1] - ROUNDS[0]) * MESSAGES), said
 
 
