@@ -3,8 +3,8 @@
 
 Each program runs few rounds and more rounds; the difference of the two counts is what the rounds between cost, so that set-up is not counted. On x86-64 valgrind's
 callgrind counts; elsewhere the kit's emulator writes a line for each instruction that it runs, and the lines are counted. Both programs print a sum over the
-outcome, the used bytes and the reply's length of every call: the sums must be the same. With --write the table goes to docs/SPEED.md; without, ours must not be
-above the numbers there."""
+outcome, the used bytes and the reply's length of every call: the sums must be the same. With --write both are counted and the table goes to docs/SPEED.md; without, ours
+alone is counted, and must not be above the numbers there."""
 import os
 import platform
 import re
@@ -91,7 +91,7 @@ def a_message(folder, words, arguments, text):
     return (counts[1] - counts[0]) / ((ROUNDS[1] - ROUNDS[0]) * MESSAGES), said
 
 
-def table(folder):
+def table(folder, write, known):
     ours_program = os.path.join(TOP, "target", "bin", "speed")
     if not os.path.exists(ours_program):
         fail("target/bin/speed is not built (rt check speed builds it)")
@@ -102,9 +102,10 @@ def table(folder):
         reference = command(theirs[protocol], False)
         workload = subprocess.run(reference + [protocol, "dump"], capture_output=True, text=True, check=True).stdout
         ours, said = a_message(folder, command(ours_program, True), [protocol], workload)
-        c, told = a_message(folder, reference, [protocol], "")
+        told = [subprocess.run(reference + [protocol, str(rounds)], capture_output=True, text=True, check=True).stdout for rounds in ROUNDS]
         if said != told:
             fail("%s: ours prints %r, the C card %r" % (protocol, said, told))
+        c = a_message(folder, reference, [protocol], "")[0] if write else known[protocol]
         print("speed: %-5s %5.0f instructions a message, the C card %5.0f, ratio %.2f; %s" % (protocol, ours, c, ours / c, said[1].strip()))
         rows.append((protocol, ours, c))
     return rows
@@ -124,19 +125,21 @@ def main():
         skip("no C compiler for x86-64 (%s)" % COMPILER)
     if NATIVE and shutil.which("valgrind") is None:
         skip("no valgrind")
-    with tempfile.TemporaryDirectory() as folder:
-        rows = table(folder)
     page = open(PAGE).read()
     at = re.search(r"(?<=<!-- the table -->\n).*?(?=<!-- its end -->)", page, re.S)
-    if "--write" in sys.argv[1:]:
+    write = "--write" in sys.argv[1:]
+    stored = dict(zip(("nfo", "ascii", "rtu"), re.findall(r"^\| [^|]*\| (\d+) \| (\d+)", at.group(0), re.M)))
+    if not write and len(stored) != 3:
+        fail("docs/SPEED.md has no table of three rows")
+    with tempfile.TemporaryDirectory() as folder:
+        rows = table(folder, write, {protocol: int(c) for protocol, (_, c) in stored.items()})
+    if write:
         open(PAGE, "w").write(page[: at.start()] + written(rows) + page[at.end():])
         return
-    limits = re.findall(r"^\| [^|]*\| (\d+) \| (\d+)", at.group(0), re.M)
-    for (protocol, ours, _), (limit, _) in zip(rows, limits):
-        if ours > MARGIN * int(limit):
-            fail("%s: %.0f instructions a message, and docs/SPEED.md has %s; if that is meant, tests/speed/run --write" % (protocol, ours, limit))
-    if len(limits) != len(rows):
-        fail("docs/SPEED.md has no table of three rows")
+    for protocol, ours, _ in rows:
+        limit = int(stored[protocol][0])
+        if ours > MARGIN * limit:
+            fail("%s: %.0f instructions a message, and docs/SPEED.md has %d; if that is meant, tests/speed/run --write" % (protocol, ours, limit))
 
 
 main()
