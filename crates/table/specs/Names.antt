@@ -90,3 +90,7 @@ I-rms = 28
 
 abbrev pub OpTime : ℕ
 OpTime = 29
+
+-- how many rows there are
+abbrev pub rowCount : ℕ
+rowCount = 30

@@ -2,9 +2,9 @@
 use mathlib.Core.Path.{_≡_, refl}
 use mathlib.Core.List.{List, [], _∷_, map}
 use Prim.Native.Nat.{ℕ}
-use lib.ListN.{getD, take}
+use lib.ListN.{length, getD, take}
 use lib.IntN.{ℤ, pos, negℤ}
-use Rattle.table.specs.Names.{P-Nom, U-Nom, f-Nom, N-Nom, cosφ, I-magn, I-limt, Accel, Retard, Mode, Fr-Min, Fr-Max, R-fix1, RegAmp, SiBaud, SiProt, SiAdr, SioTot, MbAdr, SpdScl-num, SpdScl-den, Setpoint, MODE, SCMD, Inv-St-ack, Inv-St, SioErr, FrqAct, I-rms, OpTime}
+use Rattle.table.specs.Names.{P-Nom, U-Nom, f-Nom, N-Nom, cosφ, I-magn, I-limt, Accel, Retard, Mode, Fr-Min, Fr-Max, R-fix1, RegAmp, SiBaud, SiProt, SiAdr, SioTot, MbAdr, SpdScl-num, SpdScl-den, Setpoint, MODE, SCMD, Inv-St-ack, Inv-St, SioErr, FrqAct, I-rms, OpTime, rowCount}
 use Rattle.table.specs.declared.lines.Allowed.{Allowed}
 use Rattle.table.specs.declared.lines.Allowed.the-variants.{Between, OneOf, BelowLimt, AboveMagn, ByMode, Nothing}
 use Rattle.table.specs.declared.lines.Class.{Class}
@@ -98,6 +98,11 @@ rows =
 pub names : map (λ (r : Entry). r .name) rows ≡ 0 ∷ 1 ∷ 2 ∷ 3 ∷ 4 ∷ 5 ∷ 6 ∷ 7 ∷ 8 ∷ 9 ∷ 10 ∷ 11 ∷ 12 ∷ 13 ∷ 14 ∷ 15 ∷ 16 ∷ 17 ∷ 18 ∷ 19 ∷ 20 ∷ 21 ∷ 22 ∷ 23 ∷ 24 ∷ 25 ∷ 26 ∷ 27 ∷ 28 ∷ 29 ∷ []
 unfolding rows
 names = refl
+
+-- and there are as many as `rowCount` says
+pub row-count : length rows ≡ rowCount
+unfolding rows
+row-count = refl
 
 -- past the table: no register, and nothing is allowed
 abbrev pub noLine : Line

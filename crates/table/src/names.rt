@@ -58,3 +58,6 @@ pub const FRQ_ACT: usize = 27;
 pub const I_RMS: usize = 28;
 
 pub const OP_TIME: usize = 29;
+
+// How many rows there are.
+pub const ROWS: usize = 30;
