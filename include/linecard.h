@@ -1,7 +1,10 @@
 /* The line card for firmware in C: liblinecard.a, which `rt staticlib linecard` writes, for x86-64. See docs/FIRMWARE.md.
  *
  * The host owns the card's memory; a card is plain data, and any bytes are a card. What the host sees to: no pointer is NULL, not even for 0 bytes;
- * each points to as much memory as it says, aligned for its type; no two of one call overlap; no other thread touches them while a call runs. */
+ * each points to as much memory as it says, aligned for its type; no two of one call overlap; no other thread touches them while a call runs.
+ *
+ * The library is handed the parts of a card that a call touches, where they lie (`card_.._in`), and copies none of them. The functions that take a whole card are
+ * wrappers in this header. */
 #ifndef LINECARD_H
 #define LINECARD_H
 
@@ -33,83 +36,64 @@ enum card_outcome {
 /* A reply buffer has 19 bytes at least; no reply is longer. */
 #define CARD_REPLY_LEAST 19
 
-/* Rows 301 to 322: each row's word, two's complement, in the table's order. */
-struct card_settings { uint32_t words[22]; };
-
-/* The drive: MODE, SCMD, DIN1 (0 is inactive), causes and flags (bit n is fault n), FrqAct, I-rms, OpTime. */
-struct card_drive { uint32_t mode, scmd, din1, causes, flags, frq, rms, optime; };
-
-/* The settings, and the drive. */
-struct card_plant {
-    struct card_settings settings;
-    struct card_drive drive;
+/* The words of a plant: each row of the table at its line, two's complement, and behind the rows the numbers that are no rows. The paper's Mode and MODE are
+ * CARD_MODE_SETTING and CARD_MODE. The words at Inv St, which is worked out, and at SioErr, which is the port's, hold nothing. */
+enum card_word {
+    CARD_P_NOM, CARD_U_NOM, CARD_F_NOM, CARD_N_NOM, CARD_COS_PHI, CARD_I_MAGN, CARD_I_LIMT, CARD_ACCEL,
+    CARD_RETARD, CARD_MODE_SETTING, CARD_FR_MIN, CARD_FR_MAX, CARD_R_FIX1, CARD_REG_AMP, CARD_SI_BAUD, CARD_SI_PROT,
+    CARD_SI_ADR, CARD_SIO_TOT, CARD_MB_ADR, CARD_SPD_SCL_NUM, CARD_SPD_SCL_DEN, CARD_SETPOINT, CARD_MODE, CARD_SCMD,
+    CARD_INV_ST_ACK, CARD_INV_ST, CARD_SIO_ERR, CARD_FRQ_ACT, CARD_I_RMS, CARD_OP_TIME,
+    CARD_DIN1,    /* 0 is inactive */
+    CARD_CAUSES,  /* bit n is fault n */
+    CARD_FLAGS,   /* bit n is fault n */
+    CARD_STATION, /* our Modbus address: what MbAdr held at the last start or restart */
+    CARD_WORDS
 };
+
+/* The numbers of a port: its protocol, its time sum in tenths, its SioErr. */
+enum card_number { CARD_PROTOCOL, CARD_SUM, CARD_SIOERR, CARD_NUMBERS };
 
 /* The bytes pending: the first `len`. */
 struct card_pending { uint8_t bytes[512]; size_t len; };
 
-/* What belongs to the line: the bytes pending, the protocol, the time sum in tenths, SioErr. */
+/* What belongs to the line. */
 struct card_port {
     struct card_pending pending;
-    uint32_t protocol, sum, sioerr;
+    uint32_t numbers[CARD_NUMBERS];
 };
 
-/* The whole state. `station` is our Modbus address: what MbAdr held at the last start or restart. */
+/* The whole state: a plant behind a port. */
 typedef struct card {
     struct card_port port;
-    struct card_plant plant;
-    uint32_t station;
+    uint32_t plant[CARD_WORDS];
 } card;
 
 static_assert(sizeof(size_t) == 8, "x86-64");
-static_assert(sizeof(struct card_settings) == 88 && offsetof(struct card_settings, words) == 0, "settings");
-static_assert(sizeof(struct card_drive) == 32, "drive");
-static_assert(offsetof(struct card_drive, mode) == 0 && offsetof(struct card_drive, scmd) == 4, "MODE, SCMD");
-static_assert(offsetof(struct card_drive, din1) == 8, "DIN1");
-static_assert(offsetof(struct card_drive, causes) == 12 && offsetof(struct card_drive, flags) == 16, "faults");
-static_assert(offsetof(struct card_drive, frq) == 20 && offsetof(struct card_drive, rms) == 24, "FrqAct, I-rms");
-static_assert(offsetof(struct card_drive, optime) == 28, "OpTime");
-static_assert(sizeof(struct card_plant) == 120 && offsetof(struct card_plant, settings) == 0, "plant");
-static_assert(offsetof(struct card_plant, drive) == 88, "drive in the plant");
-static_assert(sizeof(struct card_pending) == 520 && offsetof(struct card_pending, bytes) == 0, "pending");
-static_assert(offsetof(struct card_pending, len) == 512, "pending length");
-static_assert(sizeof(struct card_port) == 536 && offsetof(struct card_port, pending) == 0, "port");
-static_assert(offsetof(struct card_port, protocol) == 520 && offsetof(struct card_port, sum) == 524, "protocol, sum");
-static_assert(offsetof(struct card_port, sioerr) == 528, "SioErr");
-static_assert(sizeof(card) == 664 && offsetof(card, port) == 0 && offsetof(card, plant) == 536, "card");
-static_assert(offsetof(card, station) == 656, "station");
+static_assert(CARD_WORDS == 34 && CARD_NUMBERS == 3, "the arrays that the library is lent");
 
 #ifdef __cplusplus
 extern "C" {
 #endif
 
-/* A fresh card. Whatever the memory held before will do. */
-void card_start(card *c, uint32_t protocol);
-
-/* Restart: the settings, DIN1, causes and measured numbers stay; nothing is pending; MbAdr counts from now on. */
-void card_restart(card *c);
-
-/* Fault n is raised, or its cause has ended: 0, or 12 where n is none of 1 to 13 and 16 to 23. */
-uint32_t card_raise_fault(card *c, uint32_t n);
-uint32_t card_end_cause(card *c, uint32_t n);
-
-/* DIN1 becomes inactive, by 0, or active, by any other number: 0. */
-uint32_t card_din1(card *c, uint32_t active);
-
-/* A number is measured: 0. FrqAct is the low 16 bits of the word; FrqAct and I-rms are two's complement. */
-uint32_t card_frq_act(card *c, uint32_t word);
-uint32_t card_i_rms(card *c, uint32_t word);
-uint32_t card_op_time(card *c, uint32_t word);
-
-/* The port tells a parity fault: 0. */
-uint32_t card_parity_fault(card *c);
-
-/* So many tenths of a second pass: 0, or 12 outside 1 to 250. */
-uint32_t card_tick(card *c, uint32_t tenths);
-
-/* Bytes from the line: a scrap of the stream, or for RTU one frame. Serves the first message taken and puts its reply at the start of `reply`, whose
- * other bytes stay. told[0] gets the bytes used: hand the rest again first. told[1] gets the reply's length, 0 for none. The outcome is 0 to 11 or 15. */
-uint32_t card_receive(card *c, const uint8_t *bytes, size_t n_bytes, uint8_t *reply, size_t n_reply, size_t told[2]);
+/* ---- what the library has: each is lent the parts of a card that it touches */
+void card_start_in(uint8_t held[512], size_t *len, uint32_t port[3], uint32_t plant[34], uint32_t protocol);
+void card_restart_in(size_t *len, uint32_t port[3], uint32_t plant[34]);
+uint32_t card_raise_fault_in(uint32_t plant[34], uint32_t n);
+uint32_t card_end_cause_in(uint32_t plant[34], uint32_t n);
+uint32_t card_din1_in(uint32_t plant[34], uint32_t active);
+uint32_t card_frq_act_in(uint32_t plant[34], uint32_t word);
+uint32_t card_i_rms_in(uint32_t plant[34], uint32_t word);
+uint32_t card_op_time_in(uint32_t plant[34], uint32_t word);
+uint32_t card_parity_fault_in(uint32_t port[3], uint32_t plant[34]);
+uint32_t card_tick_in(uint32_t port[3], uint32_t plant[34], uint32_t tenths);
+uint32_t card_receive_in(uint8_t held[512], size_t *len, uint32_t port[3], uint32_t plant[34],
+                         const uint8_t *bytes, size_t n_bytes, uint8_t *reply, size_t n_reply, size_t told[2]);
+uint32_t card_receive_nfo_in(uint8_t held[512], size_t *len, uint32_t port[3], uint32_t plant[34],
+                             const uint8_t *bytes, size_t n_bytes, uint8_t *reply, size_t n_reply, size_t told[2]);
+uint32_t card_receive_rtu_in(uint8_t held[512], size_t *len, uint32_t port[3], uint32_t plant[34],
+                             const uint8_t *bytes, size_t n_bytes, uint8_t *reply, size_t n_reply, size_t told[2]);
+uint32_t card_receive_ascii_in(uint8_t held[512], size_t *len, uint32_t port[3], uint32_t plant[34],
+                               const uint8_t *bytes, size_t n_bytes, uint8_t *reply, size_t n_reply, size_t told[2]);
 
 /* Where the register data of a well-made RTU 06 or 16 lies in its frame, whatever its address: place[0] its first place, place[1] its length; for other
  * bytes 0 and 0. */
@@ -118,5 +102,54 @@ void card_register_data(const uint8_t *frame, size_t n_frame, size_t place[2]);
 #ifdef __cplusplus
 }
 #endif
+
+/* ---- what a host calls */
+/* A fresh card. Whatever the memory held before will do. */
+static inline void card_start(card *c, uint32_t protocol)
+{
+    card_start_in(c->port.pending.bytes, &c->port.pending.len, c->port.numbers, c->plant, protocol);
+}
+
+/* Restart: the settings, DIN1, causes and measured numbers stay; nothing is pending; MbAdr counts from now on. */
+static inline void card_restart(card *c) { card_restart_in(&c->port.pending.len, c->port.numbers, c->plant); }
+
+/* Fault n is raised, or its cause has ended: 0, or 12 where n is none of 1 to 13 and 16 to 23. */
+static inline uint32_t card_raise_fault(card *c, uint32_t n) { return card_raise_fault_in(c->plant, n); }
+static inline uint32_t card_end_cause(card *c, uint32_t n) { return card_end_cause_in(c->plant, n); }
+
+/* DIN1 becomes inactive, by 0, or active, by any other number: 0. */
+static inline uint32_t card_din1(card *c, uint32_t active) { return card_din1_in(c->plant, active); }
+
+/* A number is measured: 0. FrqAct is the low 16 bits of the word; FrqAct and I-rms are two's complement. */
+static inline uint32_t card_frq_act(card *c, uint32_t word) { return card_frq_act_in(c->plant, word); }
+static inline uint32_t card_i_rms(card *c, uint32_t word) { return card_i_rms_in(c->plant, word); }
+static inline uint32_t card_op_time(card *c, uint32_t word) { return card_op_time_in(c->plant, word); }
+
+/* The port tells a parity fault: 0. */
+static inline uint32_t card_parity_fault(card *c) { return card_parity_fault_in(c->port.numbers, c->plant); }
+
+/* So many tenths of a second pass: 0, or 12 outside 1 to 250. */
+static inline uint32_t card_tick(card *c, uint32_t tenths) { return card_tick_in(c->port.numbers, c->plant, tenths); }
+
+/* Bytes from the line: a scrap of the stream, or for RTU one frame. Serves the first message taken and puts its reply at the start of `reply`, whose
+ * other bytes stay. told[0] gets the bytes used: hand the rest again first. told[1] gets the reply's length, 0 for none. The outcome is 0 to 11 or 15. */
+static inline uint32_t card_receive(card *c, const uint8_t *bytes, size_t n_bytes, uint8_t *reply, size_t n_reply, size_t told[2])
+{
+    return card_receive_in(c->port.pending.bytes, &c->port.pending.len, c->port.numbers, c->plant, bytes, n_bytes, reply, n_reply, told);
+}
+
+/* The same by one protocol, whatever the port's number says: firmware that speaks one protocol links that one alone. */
+static inline uint32_t card_receive_nfo(card *c, const uint8_t *bytes, size_t n_bytes, uint8_t *reply, size_t n_reply, size_t told[2])
+{
+    return card_receive_nfo_in(c->port.pending.bytes, &c->port.pending.len, c->port.numbers, c->plant, bytes, n_bytes, reply, n_reply, told);
+}
+static inline uint32_t card_receive_rtu(card *c, const uint8_t *bytes, size_t n_bytes, uint8_t *reply, size_t n_reply, size_t told[2])
+{
+    return card_receive_rtu_in(c->port.pending.bytes, &c->port.pending.len, c->port.numbers, c->plant, bytes, n_bytes, reply, n_reply, told);
+}
+static inline uint32_t card_receive_ascii(card *c, const uint8_t *bytes, size_t n_bytes, uint8_t *reply, size_t n_reply, size_t told[2])
+{
+    return card_receive_ascii_in(c->port.pending.bytes, &c->port.pending.len, c->port.numbers, c->plant, bytes, n_bytes, reply, n_reply, told);
+}
 
 #endif

@@ -16,7 +16,7 @@ static void line_write(uint32_t outcome, const uint8_t *reply, size_t n)
 
 int main(void)
 {
-    static card c;              /* the card's memory: 664 bytes of the host's */
+    static card c;              /* the card's memory: 672 bytes of the host's */
     uint8_t scrap[16], reply[CARD_REPLY_LEAST];
     size_t n, told[2];
 
@@ -30,6 +30,6 @@ int main(void)
                 line_write(outcome, reply, told[1]);
         }
     }
-    fprintf(stderr, "MODE %u, SCMD %u, %zu bytes pending\n", c.plant.drive.mode, c.plant.drive.scmd, c.port.pending.len);
+    fprintf(stderr, "MODE %u, SCMD %u, %zu bytes pending\n", c.plant[CARD_MODE], c.plant[CARD_SCMD], c.port.pending.len);
     return 0;
 }

@@ -6,71 +6,46 @@
 //! `main` is C's: Rust's own start-up reads /proc/self/maps, on which some emulators fail.
 #![no_main]
 
-use std::mem::MaybeUninit;
+/// The words of a plant, by name: rows 301 to 322 are the first 22; the paper's MODE and the others follow at their lines, and behind the rows what is no row.
+const SETTINGS: usize = 22;
+const MODE: usize = 22;
+const SCMD: usize = 23;
+const FRQ_ACT: usize = 27;
+const I_RMS: usize = 28;
+const OP_TIME: usize = 29;
+const DIN1: usize = 30;
+const CAUSES: usize = 31;
+const FLAGS: usize = 32;
+const STATION: usize = 33;
 
-#[repr(C)]
-pub struct Settings {
-    pub words: [u32; 22],
-}
+/// The numbers of a port.
+const PROTOCOL: usize = 0;
+const SUM: usize = 1;
+const SIOERR: usize = 2;
 
-#[repr(C)]
-pub struct Drive {
-    pub mode: u32,
-    pub scmd: u32,
-    pub din1: u32,
-    pub causes: u32,
-    pub flags: u32,
-    pub frq: u32,
-    pub rms: u32,
-    pub optime: u32,
-}
-
-#[repr(C)]
-pub struct Plant {
-    pub settings: Settings,
-    pub drive: Drive,
-}
-
-#[repr(C)]
-pub struct Pending {
-    pub bytes: [u8; 512],
-    pub len: usize,
-}
-
-#[repr(C)]
-pub struct Port {
-    pub pending: Pending,
-    pub protocol: u32,
-    pub sum: u32,
-    pub sioerr: u32,
-}
-
-#[repr(C)]
-pub struct Card {
-    pub port: Port,
-    pub plant: Plant,
-    pub station: u32,
+/// A card: its parts lie where the host puts them.
+struct Card {
+    held: [u8; 512],
+    len: usize,
+    port: [u32; 3],
+    plant: [u32; 34],
 }
 
 extern "C" {
-    fn card_start(card: &mut Card, protocol: u32);
-    fn card_restart(card: &mut Card);
-    fn card_raise_fault(card: &mut Card, n: u32) -> u32;
-    fn card_end_cause(card: &mut Card, n: u32) -> u32;
-    fn card_din1(card: &mut Card, active: u32) -> u32;
-    fn card_frq_act(card: &mut Card, word: u32) -> u32;
-    fn card_i_rms(card: &mut Card, word: u32) -> u32;
-    fn card_op_time(card: &mut Card, word: u32) -> u32;
-    fn card_parity_fault(card: &mut Card) -> u32;
-    fn card_tick(card: &mut Card, tenths: u32) -> u32;
-    fn card_receive(
-        card: &mut Card,
-        bytes: *const u8,
-        n_bytes: usize,
-        reply: *mut u8,
-        n_reply: usize,
-        told: &mut [usize; 2],
-    ) -> u32;
+    fn card_start_in(held: &mut [u8; 512], len: &mut usize, port: &mut [u32; 3], plant: &mut [u32; 34], protocol: u32);
+    fn card_restart_in(len: &mut usize, port: &mut [u32; 3], plant: &mut [u32; 34]);
+    fn card_raise_fault_in(plant: &mut [u32; 34], n: u32) -> u32;
+    fn card_end_cause_in(plant: &mut [u32; 34], n: u32) -> u32;
+    fn card_din1_in(plant: &mut [u32; 34], active: u32) -> u32;
+    fn card_frq_act_in(plant: &mut [u32; 34], word: u32) -> u32;
+    fn card_i_rms_in(plant: &mut [u32; 34], word: u32) -> u32;
+    fn card_op_time_in(plant: &mut [u32; 34], word: u32) -> u32;
+    fn card_parity_fault_in(port: &mut [u32; 3], plant: &mut [u32; 34]) -> u32;
+    fn card_tick_in(port: &mut [u32; 3], plant: &mut [u32; 34], tenths: u32) -> u32;
+    fn card_receive_in(held: &mut [u8; 512], len: &mut usize, port: &mut [u32; 3], plant: &mut [u32; 34], bytes: *const u8, n_bytes: usize, reply: *mut u8, n_reply: usize, told: &mut [usize; 2]) -> u32;
+    fn card_receive_nfo_in(held: &mut [u8; 512], len: &mut usize, port: &mut [u32; 3], plant: &mut [u32; 34], bytes: *const u8, n_bytes: usize, reply: *mut u8, n_reply: usize, told: &mut [usize; 2]) -> u32;
+    fn card_receive_rtu_in(held: &mut [u8; 512], len: &mut usize, port: &mut [u32; 3], plant: &mut [u32; 34], bytes: *const u8, n_bytes: usize, reply: *mut u8, n_reply: usize, told: &mut [usize; 2]) -> u32;
+    fn card_receive_ascii_in(held: &mut [u8; 512], len: &mut usize, port: &mut [u32; 3], plant: &mut [u32; 34], bytes: *const u8, n_bytes: usize, reply: *mut u8, n_reply: usize, told: &mut [usize; 2]) -> u32;
     fn card_register_data(frame: *const u8, n_frame: usize, place: &mut [usize; 2]);
 }
 
@@ -83,13 +58,9 @@ struct Host {
 
 /// Memory that holds 5Ah throughout, with a fresh card put over it: what was there before does not count.
 fn fresh(protocol: u32) -> Card {
-    let mut memory = MaybeUninit::<Card>::uninit();
-    unsafe {
-        memory.as_mut_ptr().cast::<u8>().write_bytes(0x5A, std::mem::size_of::<Card>());
-        let mut card = memory.assume_init();
-        card_start(&mut card, protocol);
-        card
-    }
+    let mut card = Card { held: [0x5A; 512], len: 0x5A5A, port: [0x5A5A5A5A; 3], plant: [0x5A5A5A5A; 34] };
+    unsafe { card_start_in(&mut card.held, &mut card.len, &mut card.port, &mut card.plant, protocol) };
+    card
 }
 
 fn unhex(text: &str) -> Vec<u8> {
@@ -102,13 +73,20 @@ fn hex(bytes: &[u8]) -> String {
 }
 
 impl Host {
-    /// One receive call: outcome, bytes used, length of the reply.
+    /// One receive call: outcome, bytes used, length of the reply. Every other call goes by the function of the port's own protocol.
     fn receive(&mut self, bytes: &[u8], reply: &mut [u8]) -> (u32, usize, usize) {
         let mut told = [usize::MAX; 2];
-        let outcome = unsafe { card_receive(&mut self.card, bytes.as_ptr(), bytes.len(), reply.as_mut_ptr(), reply.len(), &mut told) };
+        let c = &mut self.card;
+        let call = match (self.calls % 2, c.port[PROTOCOL]) {
+            (0, _) => card_receive_in,
+            (_, 1) => card_receive_rtu_in,
+            (_, 2) => card_receive_ascii_in,
+            _ => card_receive_nfo_in,
+        };
+        let outcome = unsafe { call(&mut c.held, &mut c.len, &mut c.port, &mut c.plant, bytes.as_ptr(), bytes.len(), reply.as_mut_ptr(), reply.len(), &mut told) };
         assert!(told[1] <= 19, "no reply is longer than the least reply buffer");
         self.calls += 1;
-        self.protocols[self.card.port.protocol as usize] += 1;
+        self.protocols[self.card.port[PROTOCOL] as usize] += 1;
         (outcome, told[0], told[1])
     }
 
@@ -146,29 +124,30 @@ impl Host {
 
     /// The state line, out of the host's own memory.
     fn state(&self) -> String {
-        let (port, settings, drive) = (&self.card.port, &self.card.plant.settings, &self.card.plant.drive);
+        let (port, plant) = (&self.card.port, &self.card.plant);
         let row = |k: usize, word: u32| if k == 19 || k == 20 { word as i32 as i64 } else { word as i16 as i64 };
-        let mut columns = vec![port.protocol as i64];
-        columns.extend(settings.words.iter().enumerate().map(|(k, w)| row(k, *w)));
-        columns.extend([drive.mode, drive.scmd, port.sioerr].map(i64::from));
-        columns.extend([drive.frq as i16 as i64, drive.rms as i32 as i64]);
-        columns.extend([drive.optime, drive.din1, drive.causes, drive.flags, port.sum, self.card.station].map(i64::from));
+        let mut columns = vec![port[PROTOCOL] as i64];
+        columns.extend(plant[..SETTINGS].iter().enumerate().map(|(k, w)| row(k, *w)));
+        columns.extend([plant[MODE], plant[SCMD], port[SIOERR]].map(i64::from));
+        columns.extend([plant[FRQ_ACT] as i16 as i64, plant[I_RMS] as i32 as i64]);
+        columns.extend([plant[OP_TIME], plant[DIN1], plant[CAUSES], plant[FLAGS], port[SUM], plant[STATION]].map(i64::from));
         let numbers: Vec<String> = columns.iter().map(i64::to_string).collect();
-        format!("{} {}", numbers.join(" "), hex(&port.pending.bytes[..port.pending.len]))
+        format!("{} {}", numbers.join(" "), hex(&self.card.held[..self.card.len]))
     }
 
     fn event(&mut self, what: &str, word: u32) -> u32 {
         self.calls += 1;
+        let (port, plant) = (&mut self.card.port, &mut self.card.plant);
         unsafe {
             match what {
-                "tick" => card_tick(&mut self.card, word),
-                "raise" => card_raise_fault(&mut self.card, word),
-                "end" => card_end_cause(&mut self.card, word),
-                "din1" => card_din1(&mut self.card, word),
-                "frq" => card_frq_act(&mut self.card, word),
-                "irms" => card_i_rms(&mut self.card, word),
-                "optime" => card_op_time(&mut self.card, word),
-                _ => card_parity_fault(&mut self.card),
+                "tick" => card_tick_in(port, plant, word),
+                "raise" => card_raise_fault_in(plant, word),
+                "end" => card_end_cause_in(plant, word),
+                "din1" => card_din1_in(plant, word),
+                "frq" => card_frq_act_in(plant, word),
+                "irms" => card_i_rms_in(plant, word),
+                "optime" => card_op_time_in(plant, word),
+                _ => card_parity_fault_in(port, plant),
             }
         }
     }
@@ -183,7 +162,8 @@ impl Host {
                 "0".into()
             }
             ["restart"] => {
-                unsafe { card_restart(&mut self.card) };
+                let c = &mut self.card;
+                unsafe { card_restart_in(&mut c.len, &mut c.port, &mut c.plant) };
                 self.calls += 1;
                 "0".into()
             }

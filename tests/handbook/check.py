@@ -26,12 +26,15 @@ def ran(*words):
     return (done.stderr or done.stdout).splitlines() or ["%s ended with %d" % (" ".join(words), done.returncode)]
 
 
-def cells(page, heading):
-    """The rows of the tables under a heading, its own cells each, without heads."""
-    found = re.search(r"^%s\n(.*?)(?=^## |\Z)" % re.escape(heading), text(page), re.S | re.M)
-    if not found:
-        return []
-    lines = [line for line in found.group(1).split("\n") if line.startswith("|")]
+def sections(page):
+    """What stands under each heading `## NAME` or `## NAME: WORDS`, by NAME."""
+    parts = re.split(r"^## ", text(page), flags=re.M)[1:]
+    return {head.partition(":")[0]: part for head, _, part in (part.partition("\n") for part in parts)}
+
+
+def cells(page, name):
+    """The rows of the tables in a section, its own cells each, without heads."""
+    lines = [line for line in sections(page).get(name, "").split("\n") if line.startswith("|")]
     rows = [[cell.strip() for cell in line.strip("|").split("|")] for line in lines]
     rules = [i for i, row in enumerate(rows) if set("".join(row)) <= set("-: ")]
     return [row for i, row in enumerate(rows) if i not in rules and i + 1 not in rules]
@@ -54,13 +57,13 @@ def registers():
 
 def rooms():
     """Every crate in README's table of rooms, and nothing else."""
-    told = [name for row in cells("README.md", "## The rooms") for name in re.findall(r"`(\w+)`", row[0])]
+    told = [name for row in cells("README.md", "The rooms") for name in re.findall(r"`(\w+)`", row[0])]
     return differs("README.md, The rooms", told, crates())
 
 
 def times():
     """The crates whose seconds ARCHITECTURE.md has are there."""
-    told = [name for row in cells("docs/ARCHITECTURE.md", "## How long checks take") for name in re.findall(r"`(\w+)`", row[0])]
+    told = [name for row in cells("docs/ARCHITECTURE.md", "How long checks take") for name in re.findall(r"`(\w+)`", row[0])]
     faults = ["docs/ARCHITECTURE.md, How long checks take: no crate %s" % name for name in told if name not in crates()]
     return faults if told else ["docs/ARCHITECTURE.md: no table of seconds"]
 
@@ -70,7 +73,7 @@ def outcomes():
     numbers = []
     for path in ("crates/answers/specs/Answer.antt", "crates/card/specs/Outcome.antt", "crates/master/specs/Sent.antt", "crates/master_reply/specs/Reply.antt"):
         numbers += map(int, re.findall(r"^(?:answerNumber|refusalNumber|numberOf|sentNumber|replyNumber) [^=\n]*= (\d+)$", text(path), re.M))
-    told = [int(row[0]) for row in cells("README.md", "## Outcomes")]
+    told = [int(row[0]) for row in cells("README.md", "Outcomes")]
     return differs("README.md, Outcomes", told, sorted(set(numbers)))
 
 
@@ -86,8 +89,73 @@ def status():
     for running, standing in re.findall(r"pick \(runs \w\) (\d+) (\d+)", doing):
         numbers += [int(running), int(standing)]
     numbers += [int(re.search(r" (\d+)\)\)$", doing).group(1))]
-    told = [int(row[0]) for row in cells("README.md", "## Status")]
+    told = [int(row[0]) for row in cells("README.md", "Status")]
     return differs("README.md, Status", told, sorted(numbers))
+
+
+# ---- the promises
+def edits():
+    """Each must-fail edit, as CRATE/EDIT."""
+    paths = sorted(glob.glob(os.path.join(TOP, "crates", "*", "must-fail", "*.edit")))
+    return ["%s/%s" % (path.split(os.sep)[-3], os.path.basename(path)[:-5]) for path in paths]
+
+
+def routines(crate):
+    """The contract of each public routine of a library, from its signature on, by the routine's name: `Type::name` for one of an `impl`."""
+    found = {}
+    for path in sorted(glob.glob(os.path.join(TOP, "crates", crate, "src", "**", "*.rt"), recursive=True)):
+        source, kind = text(path), ""
+        for at in re.finditer(r'^impl (\w+)|^( *)pub (?:extern "C" )?fn (\w+)', source, re.M):
+            if at.group(1):
+                kind = at.group(1)
+                continue
+            name = "%s::%s" % (kind, at.group(3)) if at.group(2) else at.group(3)
+            found[name] = re.split(r"^%s\{$" % at.group(2), source[at.start():], maxsplit=1, flags=re.M)[0]
+    return found
+
+
+def named(name, where):
+    return re.search(r"(?<![\w-])%s(?![\w-])" % re.escape(name), where)
+
+
+def proof_text(crate):
+    """All that the specs and proofs of a crate say."""
+    paths = [path for folder in ("specs", "proofs") for path in glob.glob(os.path.join(TOP, "crates", crate, folder, "**", "*.antt"), recursive=True)]
+    return "\n".join(text(path) for path in sorted(paths))
+
+
+def refusal_faults(crate, definition, refuses, wrong):
+    """What refuses a wrong program: the equation, with laws that are there, in a crate that has an edit; or else edits of the crate, or tests."""
+    names = re.findall(r"`([^`]+)`", refuses)
+    if refuses.startswith("the equation"):
+        shown = "`" in definition and any(edit.startswith(crate + "/") for edit in wrong)
+        return ([] if shown else ["no definition, or the crate has no edit"]) + ["no law %s" % law for law in names if not named(law, proof_text(crate))]
+    missing = [name for name in names if "%s/%s" % (crate, name) not in wrong and not os.path.isdir(os.path.join(TOP, "tests", os.path.basename(name)))]
+    return ["no %s" % name for name in missing] if names else ["nothing refuses a wrong program"]
+
+
+def promises_of(crate, wrong):
+    """A line for each public routine of a crate and no other, whose definitions its contract cites."""
+    rows, contracts, faults = cells("docs/PROMISES.md", crate), routines(crate), []
+    for routine, promise, definition, refuses in rows:
+        told = [] if promise else ["no promise"]
+        told += ["its contract does not cite %s" % name for name in re.findall(r"`([^`]+)`", definition) if not named(name, contracts.get(routine.strip("`"), ""))]
+        told += refusal_faults(crate, definition, refuses, wrong)
+        faults += ["%s: %s" % (routine, fault) for fault in told]
+    return faults + differs("lines", [row[0].strip("`") for row in rows], list(contracts))
+
+
+def promises():
+    """Every public routine has its line in docs/PROMISES.md, every must-fail edit its own, and there are no other."""
+    rows, wrong = cells("docs/PROMISES.md", "The edits"), edits()
+    faults = differs("The edits", ["%s/%s" % (row[0], row[1].strip("`")) for row in rows], wrong)
+    faults += ["The edits: %s shows nothing, or is refused nowhere" % row[1] for row in rows if len(row) != 4 or not all(row)]
+    libraries = [crate for crate in crates() if os.path.exists(os.path.join(TOP, "crates", crate, "src", "lib.rt"))]
+    for crate in libraries:
+        faults += ["%s: %s" % (crate, fault) for fault in promises_of(crate, wrong)]
+    others = [name for name in sections("docs/PROMISES.md") if name not in libraries + ["The edits"]]
+    faults += ["%s: no library has these routines" % name for name in others if cells("docs/PROMISES.md", name)]
+    return ["docs/PROMISES.md, %s" % fault for fault in faults]
 
 
 # ---- the pictures
@@ -149,7 +217,7 @@ def sessions():
     return faults + ["%s shows no session" % page for page in ("README.md", "docs/BENCH.md") if page not in seen]
 
 
-CHECKS = [registers, rooms, times, outcomes, status, picture_of_rooms, picture_of_the_morning, links, sessions]
+CHECKS = [registers, rooms, times, outcomes, status, promises, picture_of_rooms, picture_of_the_morning, links, sessions]
 
 
 def main():

@@ -1,10 +1,10 @@
 #!/usr/bin/env python3
-"""Instructions a message of the program `speed` and of a card by hand in C, over the same workloads.
+"""Instructions a message of the card, through the library from C and in the program `speed`, beside a card by hand in C, over the same workloads.
 
 Each program runs few rounds and more rounds; the difference of the two counts is what the rounds between cost, so that set-up is not counted. On x86-64 valgrind's
-callgrind counts; elsewhere the kit's emulator writes a line for each instruction that it runs, and the lines are counted. Both programs print a sum over the
-outcome, the used bytes and the reply's length of every call: the sums must be the same. With --write both are counted and the table goes to docs/SPEED.md; without, ours
-alone is counted, and must not be above the numbers there."""
+callgrind counts; elsewhere the kit's emulator writes a line for each instruction that it runs, and the lines are counted. Each program prints a sum over the
+outcome, the used bytes and the reply's length of every call: the sums must be the same. With --write all are counted and the table goes to docs/SPEED.md; without, ours
+alone are counted, and must not be above the numbers there."""
 import os
 import platform
 import re
@@ -18,6 +18,7 @@ HERE = os.path.dirname(os.path.abspath(__file__))
 TOP = os.path.dirname(os.path.dirname(HERE))
 PAGE = os.path.join(TOP, "docs", "SPEED.md")
 ROUNDS = (1, 2)
+NAMES = {"nfo": "NFO serial", "ascii": "Modbus ASCII", "rtu": "Modbus RTU"}
 MESSAGES = 1000
 NATIVE = platform.machine() == "x86_64"
 COMPILER = "gcc" if NATIVE else "x86_64-linux-gnu-gcc"
@@ -58,6 +59,17 @@ def build(folder, name, bit_step):
     return program
 
 
+def host(folder):
+    """The C host over the library, compiled as firmware is."""
+    library = os.path.join(TOP, "target", "staticlib", "liblinecard.a")
+    if not os.path.exists(library):
+        subprocess.check_call(["rt", "staticlib", "linecard"], cwd=TOP, stdout=subprocess.DEVNULL)
+    program = os.path.join(folder, "host")
+    words = ["-std=c11", "-O2", "-Wall", "-Wextra", "-Werror", "-static", "-I", os.path.join(TOP, "include")]
+    subprocess.check_call([COMPILER] + words + ["-o", program, os.path.join(HERE, "host.c"), library])
+    return program
+
+
 def command(program, ours):
     """How a program is run here: directly, or by the emulator."""
     if NATIVE:
@@ -95,28 +107,32 @@ def table(folder, write, known):
     ours_program = os.path.join(TOP, "target", "bin", "speed")
     if not os.path.exists(ours_program):
         fail("target/bin/speed is not built (rt check speed builds it)")
+    library = command(host(folder), False)
     theirs = {"nfo": build(folder, "card", False), "ascii": None, "rtu": build(folder, "card_bits", True)}
     theirs["ascii"] = theirs["nfo"]
     rows = []
-    for protocol in ("nfo", "ascii", "rtu"):
+    for protocol in NAMES:
         reference = command(theirs[protocol], False)
         workload = subprocess.run(reference + [protocol, "dump"], capture_output=True, text=True, check=True).stdout
-        ours, said = a_message(folder, command(ours_program, True), [protocol], workload)
         told = [subprocess.run(reference + [protocol, str(rounds)], capture_output=True, text=True, check=True).stdout for rounds in ROUNDS]
-        if said != told:
-            fail("%s: ours prints %r, the C card %r" % (protocol, said, told))
-        c = a_message(folder, reference, [protocol], "")[0] if write else known[protocol]
-        print("speed: %-5s %5.0f instructions a message, the C card %5.0f, ratio %.2f; %s" % (protocol, ours, c, ours / c, said[1].strip()))
-        rows.append((protocol, ours, c))
+        counts = []
+        for words in (library, command(ours_program, True)):
+            ours, said = a_message(folder, words, [protocol], workload)
+            if said != told:
+                fail("%s: ours prints %r, the C card %r" % (protocol, said, told))
+            counts.append(ours)
+        c = a_message(folder, reference, [protocol], "")[0] if write else known[protocol][2]
+        print("speed: %-5s %5.0f instructions a message through the library, %5.0f in Rattle, the C card %5.0f; ratios %.2f and %.2f; %s"
+              % (protocol, counts[0], counts[1], c, counts[0] / c, counts[1] / c, told[1].strip()))
+        rows.append((protocol, counts[0], counts[1], c))
     return rows
 
 
 def written(rows):
-    names = {"nfo": "NFO serial", "ascii": "Modbus ASCII", "rtu": "Modbus RTU"}
-    out = ["| protocol | ours | C by hand | ratio |", "|-|-|-|-|"]
-    for protocol, ours, c in rows:
+    out = ["| protocol | the library, from C | in Rattle | C by hand | ratios |", "|-|-|-|-|-|"]
+    for protocol, library, ours, c in rows:
         note = ", its CRC bit by bit" if protocol == "rtu" else ""
-        out.append("| %s | %.0f | %.0f%s | %.2f |" % (names[protocol], ours, c, note, ours / c))
+        out.append("| %s | %.0f | %.0f | %.0f%s | %.2f, %.2f |" % (NAMES[protocol], library, ours, c, note, library / c, ours / c))
     return "\n".join(out) + "\n"
 
 
@@ -128,18 +144,18 @@ def main():
     page = open(PAGE).read()
     at = re.search(r"(?<=<!-- the table -->\n).*?(?=<!-- its end -->)", page, re.S)
     write = "--write" in sys.argv[1:]
-    stored = dict(zip(("nfo", "ascii", "rtu"), re.findall(r"^\| [^|]*\| (\d+) \| (\d+)", at.group(0), re.M)))
+    stored = {protocol: tuple(map(int, counts)) for protocol, counts in zip(NAMES, re.findall(r"^\| [^|]*\| (\d+) \| (\d+) \| (\d+)", at.group(0), re.M))}
     if not write and len(stored) != 3:
         fail("docs/SPEED.md has no table of three rows")
     with tempfile.TemporaryDirectory() as folder:
-        rows = table(folder, write, {protocol: int(c) for protocol, (_, c) in stored.items()})
+        rows = table(folder, write, stored)
     if write:
         open(PAGE, "w").write(page[: at.start()] + written(rows) + page[at.end():])
         return
-    for protocol, ours, _ in rows:
-        limit = int(stored[protocol][0])
-        if ours > MARGIN * limit:
-            fail("%s: %.0f instructions a message, and docs/SPEED.md has %d; if that is meant, tests/speed/run --write" % (protocol, ours, limit))
+    for protocol, library, ours, _ in rows:
+        for where, count_now, limit in (("through the library", library, stored[protocol][0]), ("in Rattle", ours, stored[protocol][1])):
+            if count_now > MARGIN * limit:
+                fail("%s: %.0f instructions a message %s, and docs/SPEED.md has %d; if that is meant, tests/speed/run --write" % (protocol, count_now, where, limit))
 
 
 main()

@@ -1,123 +1,95 @@
-// The rule of each row, and what it means.
-use crate::Bounds;
-use crate::numbers::number;
-use table::Allowed;
-use table::Allowed::AboveMagn;
-use table::Allowed::BelowLimt;
-use table::Allowed::Between;
-use table::Allowed::ByMode;
-use table::Allowed::Nothing;
-use table::Allowed::OneOf;
-use table::names::*;
+// The rules of the column Allowed, for the word that stands for a number.
 ghost use mathlib.Core.Path.{_≡_};
 ghost use mathlib.Core.List.{[], _∷_};
-ghost use Rattle.table.specs.Table.{lineAt};
-ghost use Rattle.allowed.specs.Allowed.{within, member, belowLimt, aboveMagn, setpointAllows, allows};
+ghost use Prim.Native.Nat.{_<_};
+ghost use lib.Dec.{leb};
+ghost use lib.IntN.{pos};
+ghost use Rattle.base.specs.Choice.{both};
+ghost use Rattle.allowed.specs.Allowed.{about, belowLimt, aboveMagn, setpointAllows};
+ghost use Rattle.allowed.specs.Words.{narrow, rankOf, listed};
 
-// The column Allowed.
-pub(crate) fn rule_of(row: usize) -> Allowed
-    ensures { λ r. ⌜ r ≡ lineAt row .allowed ⌝ }
-{
-    match row {
-        P_NOM => Between(1, 10000),
-        U_NOM => Between(1, 1000),
-        F_NOM => Between(1, 500),
-        N_NOM => Between(5, 32765),
-        COS_PHI => Between(1, 100),
-        I_MAGN => BelowLimt,
-        I_LIMT => AboveMagn(3000),
-        ACCEL => Between(2, 5000),
-        RETARD => Between(2, 5000),
-        MODE_SETTING => Between(0, 3),
-        FR_MIN => Between(0, 1500),
-        FR_MAX => Between(0, 1500),
-        R_FIX1 => Between(-20000, 20000),
-        REG_AMP => OneOf(1, -1, -1, -1),
-        SI_BAUD => OneOf(16, 32, 64, 128),
-        SI_PROT => OneOf(0, 1, 1, 1),
-        SI_ADR => Between(0, 95),
-        SIO_TOT => Between(0, 250),
-        MB_ADR => Between(1, 247),
-        SPD_SCL_NUM => Between(1, 1000000),
-        SPD_SCL_DEN => Between(1, 1000000),
-        SETPOINT => ByMode,
-        MODE => OneOf(1, 2, 3, 3),
-        SCMD => OneOf(0, 129, 257, 257),
-        _ => Nothing,
-    }
-}
+// −1, as a 16-bit row's word.
+pub(crate) const MINUS_1: u32 = 0xFFFF;
 
-// What a rule means.
-pub(crate) fn allowed_by(rule: Allowed, v: i32, by: Bounds) -> bool
-    ensures { λ r. ⌜ r ≡ allows rule by v ⌝ }
+// lo..hi, neither below 0
+pub(crate) fn between(lo: u32, hi: u32, word: u32) -> bool
+    ensures { λ r. ⌜ r ≡ both (leb lo word) (leb word hi) ⌝ }
 {
-    match rule {
-        Allowed::Between(lo, hi) => between(lo, hi, v),
-        Allowed::OneOf(a, b, c, d) => one_of(v, a, b, c, d),
-        Allowed::BelowLimt => below_limt(v, by.limt),
-        Allowed::AboveMagn(top) => above_magn(v, by.magn, top),
-        Allowed::ByMode => setpoint(v, by.mode),
-        Allowed::Nothing => false,
-    }
-}
-
-// lo..hi
-fn between(lo: i32, hi: i32, v: i32) -> bool
-    ensures { λ r. ⌜ r ≡ within lo hi v ⌝ }
-{
-    if lo <= v {
-        return v <= hi;
+    if lo <= word {
+        return word <= hi;
     }
     false
 }
 
-fn one_of(v: i32, a: i32, b: i32, c: i32, d: i32) -> bool
-    ensures { λ r. ⌜ r ≡ member v (a ∷ b ∷ c ∷ d ∷ []) ⌝ }
+// One of up to four; the last stands again where there are fewer.
+pub(crate) fn one_of(a: u32, b: u32, c: u32, d: u32, word: u32) -> bool
+    ensures { λ r. ⌜ r ≡ listed word (a ∷ b ∷ c ∷ d ∷ []) ⌝ }
 {
-    if v == a {
+    if word == a {
         return true;
     }
-    if v == b {
+    if word == b {
         return true;
     }
-    if v == c {
+    if word == c {
         return true;
     }
-    v == d
+    word == d
+}
+
+// Where a 16-bit row's word stands in the order of the numbers: two's complement, so 8000h comes first.
+fn rank(word: u32) -> u32
+    ensures { λ r. ⌜ r ≡ rankOf word ⌝ }
+{
+    (word % 0x10000 + 0x8000) % 0x10000
+}
+
+// −m..m
+pub(crate) fn about_0(m: u32, word: u32) -> bool
+    requires { ⌜ m < 0x8000 ⌝ }
+    ensures { λ r. ⌜ r ≡ narrow (about m) word ⌝ }
+{
+    if 0x10000 <= word {
+        return false;
+    }
+    between(0x8000 - m, 0x8000 + m, rank(word))
 }
 
 // 0..I-limt−1
-fn below_limt(v: i32, limt: u32) -> bool
-    ensures { λ r. ⌜ r ≡ belowLimt limt v ⌝ }
+pub(crate) fn below_limt(limt: u32, word: u32) -> bool
+    ensures { λ r. ⌜ r ≡ narrow (belowLimt limt) word ⌝ }
 {
-    let top = number(limt);
-    if 0 <= v {
-        return v < top;
+    if 0x8000 <= word {
+        return false;
     }
-    false
+    rank(word) < rank(limt)
 }
 
 // I-magn+1..top
-fn above_magn(v: i32, magn: u32, top: i32) -> bool
-    ensures { λ r. ⌜ r ≡ aboveMagn magn top v ⌝ }
+pub(crate) fn above_magn(magn: u32, top: u32, word: u32) -> bool
+    requires { ⌜ top < 0x8000 ⌝ }
+    ensures { λ r. ⌜ r ≡ narrow (aboveMagn magn (pos top)) word ⌝ }
 {
-    let bottom = number(magn);
-    if bottom < v {
-        return v <= top;
+    if 0x10000 <= word {
+        return false;
+    }
+    let at = rank(word);
+    if rank(magn) < at {
+        return at <= 0x8000 + top;
     }
     false
 }
 
 // Setpoint: ±1500 at Mode 0 or 1, ±200 at 2, ±9000 at 3.
-fn setpoint(v: i32, mode: u32) -> bool
-    ensures { λ r. ⌜ r ≡ setpointAllows mode v ⌝ }
+pub(crate) fn setpoint(mode: u32, word: u32) -> bool
+    ensures { λ r. ⌜ r ≡ narrow (setpointAllows mode) word ⌝ }
 {
-    let m = mode % 65536;
+    let m = mode % 0x10000;
     match m {
-        0 => between(-1500, 1500, v),
-        1 => between(-1500, 1500, v),
-        2 => between(-200, 200, v),
-        3 => between(-9000, 9000, v),
+        0 => about_0(1500, word),
+        1 => about_0(1500, word),
+        2 => about_0(200, word),
+        3 => about_0(9000, word),
         _ => false,
     }
 }

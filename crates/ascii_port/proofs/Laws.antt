@@ -6,50 +6,52 @@ use native.Mathlib.Omega.{arith}
 use lib.ListN.{length, getD, take, drop, length-append}
 use Rattle.base.specs.Buffers.{front}
 use Rattle.base.proofs.Sets.{take-front}
-use Rattle.pending.specs.declared.Pending.{Pending}
-use Rattle.pending.specs.Scanning.{Scan, scanIn}
+use Rattle.pending.specs.Scanning.{scanIn}
 use Rattle.pending.specs.declared.Scanned.{Scanned}
 use Rattle.pending.specs.Held.{held}
 use Rattle.ascii.specs.Ascii.{bytesIn}
 use Rattle.ascii.proofs.Replies as Replies
 use Rattle.ascii_scan.specs.Parts.{unitAmong}
-use Rattle.drive.specs.Plant.{plantOf}
+use Rattle.port.specs.Port.{Numbers}
+use Rattle.drive.specs.Plant.{Plant}
 use Rattle.modbus_service.specs.Reply.{exchangedIn, exchanged}
 use Rattle.modbus_service.specs.declared.Exchange.{Exchange}
 use Rattle.modbus_service.specs.declared.Reply.{Reply}
 use Rattle.modbus_service.specs.declared.Reply.the-variants.{Nothing, Data}
+use Rattle.card.specs.State.{cardOf}
 use Rattle.card.specs.declared.state.Card.{Card}
 use Rattle.card.specs.declared.outcome.Outcome.the-variants as Outcomes
-use Rattle.turn.specs.Core.{cardOf, turnIn, coreAfter}
-use Rattle.turn.specs.declared.Core.{Core}
+use Rattle.turn.specs.Turn.{portAfter}
+use Rattle.turn.specs.Turned.{turnIn}
 use Rattle.turn.specs.Stream.{taken}
 use Rattle.turn.specs.declared.Turn.{Turn}
 use Rattle.turn.proofs.Laws.{Does, after-in, streamed-used, streamed-uses, streamed-short}
 use Rattle.ascii_port.specs.Receive.{exchangeOn, replyText, answeredBy, asciiStream, asciiReceived}
 
--- ---- a message's bytes are served: the arrays `held`, `words` are lent, and `words′` are the settings then
-module _ (held words words′ : List ℕ) (k after : Core) (scan : Scanned) (message unit : List ℕ) (address : ℕ) (e : Exchange) (n : ℕ) (out before : List ℕ)
-    (from : address ≡ getD message 0 0) (has : unit ≡ unitAmong message)
-    (serves : exchangedIn words′ e ≡ exchanged (plantOf words (k .drive)) (k .sioerr) (k .station) address unit)
-    (puts : (n ≡ length (replyText address (e .reply))) × (out ≡ front (replyText address (e .reply)) before))
-    (leaves : after ≡ coreAfter k (e .done)) where
-  pub answers : Does (turnIn held words′ (record { core = after; outcome = Outcomes.Served (e .done .answer); used = scan .used; len = n })) out
-      (answeredBy (cardOf held words k) (scanIn held scan) message) before
-  answers = rw (← has, ← from, ← serves, leaves, puts .0, after-in held words held words′ (scan .len) k (e .done)) (refl, puts .1)
+-- ---- a message's bytes are served: the plant and the port are `p′` and `q′` then, and the port `q″` after the message
+module _ (held : List ℕ) (q q′ q″ : Numbers) (p p′ : Plant) (scan : Scanned) (message unit : List ℕ) (address : ℕ) (e : Exchange) (n : ℕ) (out before : List ℕ)
+    (from : address ≡ getD message 0 0) (has : unit ≡ unitAmong message) (serves : exchangedIn p′ q′ e ≡ exchanged p q address unit)
+    (leaves : q″ ≡ portAfter (e .answer) q′)
+    (puts : (n ≡ length (replyText address (e .reply))) × (out ≡ front (replyText address (e .reply)) before)) where
+  pub answers : Does (turnIn held q″ p′ (record { pending = 0; outcome = Outcomes.Served (e .answer); used = scan .used; len = n })) out
+      (answeredBy (cardOf held (scan .len) q p) (scanIn held scan) message) before
+  answers = rw (← has, ← from, ← serves, puts .0, after-in held (scan .len) q″ (exchangedIn p′ q′ e .served) leaves) (refl, puts .1)
 
 -- ---- they are decoded from the text that is held
-module _ (p : Pending) (n : ℕ) (m before : List ℕ) (decodes : (n ≡ length (bytesIn (held p))) × (m ≡ front (bytesIn (held p)) before)) where
+module _ (text : List ℕ) (n : ℕ) (m before : List ℕ) (decodes : (n ≡ length (bytesIn text)) × (m ≡ front (bytesIn text) before)) where
   pub within : n ≤ length m
   unfolding front
-  within = omega (arith, decodes .0, ap length (decodes .1) ∙ length-append (bytesIn (held p)) (drop (length (bytesIn (held p))) before))
+  within = omega (arith, decodes .0, ap length (decodes .1) ∙ length-append (bytesIn text) (drop (length (bytesIn text)) before))
 
-  pub decoded : take (n - 0) m ≡ bytesIn (held p)
-  decoded = let k : n - 0 ≡ length (bytesIn (held p)) = omega (arith, decodes .0) in rw (k, decodes .1) (take-front (bytesIn (held p)) before)
+  pub decoded : take (n - 0) m ≡ bytesIn text
+  decoded = let k : n - 0 ≡ length (bytesIn text) = omega (arith, decodes .0) in rw (k, decodes .1) (take-front (bytesIn text) before)
 
 -- a message is taken
-pub takes : (c : Card) (scan : Scan) (message : List ℕ) (r : Turn) (out before : List ℕ) → message ≡ bytesIn (held (scan .pending))
-    → Does r out (answeredBy c scan message) before → Does r out (taken asciiStream c scan) before
-takes c scan message r out before e d = rw (← e) d
+pub takes : (array : List ℕ) (q : Numbers) (p : Plant) (scan : Scanned) (message : List ℕ) (r : Turn) (out before : List ℕ) → message ≡ bytesIn (take (scan .len) array)
+    → Does r out (answeredBy (cardOf array (scan .len) q p) (scanIn array scan) message) before
+    → Does r out (taken asciiStream (cardOf array (scan .len) q p) (scanIn array scan)) before
+unfolding held
+takes array q p scan message r out before e d = rw (← e) d
 
 -- ---- what a caller may count on: the bytes used are there, one at least is used, and a reply has 19 bytes at most
 text-short : (address : ℕ) (said : Reply) → length (replyText address said) ≤ 19

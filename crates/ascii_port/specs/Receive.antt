@@ -15,7 +15,7 @@ use Rattle.turn.specs.Stream.{Stream, streamed}
 
 -- what a message comes to, on this card: its first byte is the address, its last the LRC, and between them stands the data unit
 abbrev pub exchangeOn : Card → List ℕ → Exchanged
-exchangeOn c message = exchanged (c .plant) (c .port .sioerr) (c .station) (getD message 0 0) (unitAmong message)
+exchangeOn c message = exchanged (c .plant) (c .port .numbers) (getD message 0 0) (unitAmong message)
 
 -- the reply's text, from the request's address
 abbrev pub replyText : ℕ → Reply → List ℕ
@@ -25,7 +25,7 @@ abbrev pub replyOn : Card → List ℕ → List ℕ
 replyOn c message = replyText (getD message 0 0) (exchangeOn c message .reply)
 
 abbrev pub answeredBy : Card → Scan → List ℕ → Received
-answeredBy c scan message = answered c (scan .pending) (scan .used) (exchangeOn c message .served) (replyOn c message)
+answeredBy c scan message = answered (scan .pending) (scan .used) (exchangeOn c message .served) (replyOn c message)
 
 -- the message's bytes are those that the text held spells
 abbrev pub asciiStream : Stream

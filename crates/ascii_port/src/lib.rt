@@ -1,11 +1,11 @@
-// Modbus ASCII on the card's port: `receive` reads a scrap, serves the first message taken and replies to it. The card's two arrays are lent, so that no
-// call copies them.
+// Modbus ASCII on the card's port: `receive` reads a scrap, serves the first message taken and replies to it. The card's parts are lent where they lie.
 use card::Outcome;
+use drive::Plant;
 use modbus_service::Reply;
 use pending::Scanned;
-use turn::Core;
-use turn::CoreTurn;
-use turn::core_after;
+use port::Numbers;
+use turn::Turned;
+use turn::after_message;
 use turn::nothing_taken;
 use turn::short_buffer;
 ghost use mathlib.Core.Path.{_≡_};
@@ -14,7 +14,8 @@ ghost use lib.ListN.{length};
 ghost use Rattle.base.specs.Buffers.{front};
 ghost use Rattle.pending.specs.Scanning.{scanIn};
 ghost use Rattle.turn.specs.Turn.{turnOf};
-ghost use Rattle.turn.specs.Core.{cardOf, turnIn};
+ghost use Rattle.card.specs.State.{cardOf};
+ghost use Rattle.turn.specs.Turned.{turnIn};
 ghost use Rattle.turn.specs.Stream.{taken};
 ghost use Rattle.ascii_port.specs.Receive.{replyText, answeredBy, asciiStream, asciiReceived};
 
@@ -22,71 +23,64 @@ ghost use Rattle.ascii_port.specs.Receive.{replyText, answeredBy, asciiS
 // The caller hands the unused rest again first.
 pub fn receive(
     held: &mut [u8; 512],
-    settings: &mut [u32; 22],
-    core: Core,
+    len: usize,
+    port: &mut Numbers,
+    plant: &mut Plant,
     bytes: &[u8],
     reply: &mut [u8],
-) -> CoreTurn
-    ensures turn { λ r. ⌜ turnIn (now (held .exit)) (now (settings .exit)) r ≡ turnOf (asciiReceived (cardOf (now (held .entry)) (now (settings .entry)) core) (now (bytes .entry)) (length (now (reply .entry)))) ⌝ }
-    ensures lent { λ _. ⌜ now (reply .exit) ≡ front (asciiReceived (cardOf (now (held .entry)) (now (settings .entry)) core) (now (bytes .entry)) (length (now (reply .entry))) .reply) (now (reply .entry)) ⌝ }
+) -> Turned
+    ensures turn { λ r. ⌜ turnIn (now (held .exit)) (now (port .exit)) (now (plant .exit)) r ≡ turnOf (asciiReceived (cardOf (now (held .entry)) len (now (port .entry)) (now (plant .entry))) (now (bytes .entry)) (length (now (reply .entry)))) ⌝ }
+    ensures lent { λ _. ⌜ now (reply .exit) ≡ front (asciiReceived (cardOf (now (held .entry)) len (now (port .entry)) (now (plant .entry))) (now (bytes .entry)) (length (now (reply .entry))) .reply) (now (reply .entry)) ⌝ }
 {
     if reply.len() < 19 {
-        return short_buffer(core);
+        return short_buffer(len);
     }
-    let scan = ascii_scan::scan(held, core.len, bytes);
+    let scan = ascii_scan::scan(held, len, bytes);
     if !scan.taken {
-        return nothing_taken(core, scan);
+        return nothing_taken(scan);
     }
-    take(held, settings, core, scan, reply)
+    take(held, port, plant, scan, reply)
 }
 
 // A message is taken: its bytes are read from the text that is held.
 fn take(
     held: &[u8; 512],
-    settings: &mut [u32; 22],
-    core: Core,
+    port: &mut Numbers,
+    plant: &mut Plant,
     scan: Scanned,
     reply: &mut [u8],
-) -> CoreTurn
+) -> Turned
     requires { ⌜ 19 ≤ length (now reply) ⌝ }
-    ensures turn { λ r. ⌜ turnIn (now (held .entry)) (now (settings .exit)) r ≡ turnOf (taken asciiStream (cardOf (now (held .entry)) (now (settings .entry)) core) (scanIn (now (held .entry)) scan)) ⌝ }
-    ensures lent { λ _. ⌜ now (reply .exit) ≡ front (taken asciiStream (cardOf (now (held .entry)) (now (settings .entry)) core) (scanIn (now (held .entry)) scan) .reply) (now (reply .entry)) ⌝ }
+    ensures turn { λ r. ⌜ turnIn (now (held .entry)) (now (port .exit)) (now (plant .exit)) r ≡ turnOf (taken asciiStream (cardOf (now (held .entry)) (scan .len) (now (port .entry)) (now (plant .entry))) (scanIn (now (held .entry)) scan)) ⌝ }
+    ensures lent { λ _. ⌜ now (reply .exit) ≡ front (taken asciiStream (cardOf (now (held .entry)) (scan .len) (now (port .entry)) (now (plant .entry))) (scanIn (now (held .entry)) scan) .reply) (now (reply .entry)) ⌝ }
 {
     let mut message = [0u8; 256];
     let n = ascii_scan::message_bytes(held, scan.len, &mut message);
-    answer(held, settings, core, scan, &message[0..n], reply)
+    answer(held, port, plant, scan, &message[0..n], reply)
 }
 
 // The data unit of a message's bytes is served and replied to.
 fn answer(
     held: &[u8; 512],
-    settings: &mut [u32; 22],
-    core: Core,
+    port: &mut Numbers,
+    plant: &mut Plant,
     scan: Scanned,
     message: &[u8],
     reply: &mut [u8],
-) -> CoreTurn
+) -> Turned
     requires { ⌜ 19 ≤ length (now reply) ⌝ }
-    ensures turn { λ r. ⌜ turnIn (now (held .entry)) (now (settings .exit)) r ≡ turnOf (answeredBy (cardOf (now (held .entry)) (now (settings .entry)) core) (scanIn (now (held .entry)) scan) (now (message .entry))) ⌝ }
-    ensures lent { λ _. ⌜ now (reply .exit) ≡ front (answeredBy (cardOf (now (held .entry)) (now (settings .entry)) core) (scanIn (now (held .entry)) scan) (now (message .entry)) .reply) (now (reply .entry)) ⌝ }
+    ensures turn { λ r. ⌜ turnIn (now (held .entry)) (now (port .exit)) (now (plant .exit)) r ≡ turnOf (answeredBy (cardOf (now (held .entry)) (scan .len) (now (port .entry)) (now (plant .entry))) (scanIn (now (held .entry)) scan) (now (message .entry))) ⌝ }
+    ensures lent { λ _. ⌜ now (reply .exit) ≡ front (answeredBy (cardOf (now (held .entry)) (scan .len) (now (port .entry)) (now (plant .entry))) (scanIn (now (held .entry)) scan) (now (message .entry)) .reply) (now (reply .entry)) ⌝ }
 {
     let address = modbus_words::byte_at(message, 0);
     let unit = ascii_scan::unit_among(message);
-    let exchange = modbus_service::serve(
-        settings,
-        core.drive,
-        core.sioerr,
-        core.station,
-        address,
-        unit,
-    );
-    let done = exchange.done;
+    let exchange = modbus_service::serve(plant, port, address, unit);
+    let answer = exchange.answer;
     let said = exchange.reply;
-    let answer = done.answer;
+    after_message(port, answer);
     let len = put(address, said, reply);
-    let after = core_after(core, done);
-    CoreTurn {
-        core: after,
+    Turned {
+        pending: 0,
         outcome: Outcome::Served(answer),
         used: scan.used,
         len,

@@ -2,15 +2,18 @@
 use mathlib.Core.Path.{_≡_, refl, sym, ap, _∙_}
 use mathlib.Core.Bool.{Bool, true, false}
 use mathlib.Core.List.{List, [], _∷_}
-use Prim.Native.Nat.{ℕ, suc, _-_, _≤_, _<_, min}
+use Prim.Native.Nat.{ℕ, suc, _+_, _-_, _*_, _/_, _≤_, _<_, min}
 use native.Mathlib.Omega.{arith}
 use borrow.Author.Tests.{ltb-true, ltb-false}
 use lib.Dec.{ltb}
-use lib.ListN.{length, take, drop, length-take, length-drop}
+use lib.ListN.{length, take, drop, getD, set, length-take, length-drop}
 use lib.Seq.{sets, take-all}
 use Rattle.base.specs.Buffers.{front}
 use Rattle.base.proofs.Sets.{sets-front, front-none}
-use Rattle.hex.specs.Hex.{bytesOf}
+use Rattle.hex.specs.Hex.{pairValue, bytesOf}
+use Rattle.hex.specs.declared.Pair.{Pair}
+use Rattle.hex.specs.declared.Pair.the-variants.{Byte, NoByte}
+use Rattle.hex.proofs.Laws.{Decoding, decode-again, spoilt, no-pair}
 use Rattle.hex.proofs.RoundTrip.{length-bytes}
 use Rattle.ascii.specs.Ascii.{bytesIn}
 use Rattle.ascii_scan.specs.Parts.{unitAmong}
@@ -44,6 +47,18 @@ module _ (l : List ℕ) (k n : ℕ) (size : length l ≡ 512) (e : k ≡ min n 5
   some-lent o r room q =
       q ∙ sets-front (bytesOf (take (k - 1) (drop 1 l))) o (omega (arith, length-bytes (take (k - 1) (drop 1 l)), length-take (k - 1) (drop 1 l), length-drop 1 l))
       ∙ ap (λ (b : List ℕ). front b o) spelt
+
+-- ---- `spell`: the pair at place i, of the pairs of a text
+module _ (text : List ℕ) (i : ℕ) where
+  pub spell-again : (o₀ o : List ℕ) (b : ℕ) (p : Pair) → Decoding text o₀ o i → i < length text / 2 → p ≡ pairValue (getD text (2 * i) 0) (getD text (2 * i + 1) 0) → p ≡ Byte b
+      → Decoding text o₀ (set o i b) (i + 1)
+  spell-again o₀ o b p d h q e = decode-again text o₀ o (set o i b) i b p d (omega arith) q e refl
+
+  pub spell-spoilt : (p : Pair) → i < length text / 2 → p ≡ pairValue (getD text (2 * i) 0) (getD text (2 * i + 1) 0) → p ≡ NoByte → bytesOf (drop (2 * i) text) ≡ []
+  spell-spoilt p h q e = spoilt text i p (omega arith) q e
+
+  pub spell-done : length text / 2 ≤ i → bytesOf (drop (2 * i) text) ≡ []
+  spell-done h = no-pair text i (omega arith)
 
 -- ---- the data unit is the part between the first byte and the last
 pub unit-none : (b : List ℕ) → length b < 2 → [] ≡ unitAmong b

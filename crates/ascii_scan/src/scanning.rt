@@ -1,4 +1,5 @@
 // Scanning a scrap for the first message.
+use crate::digits::push_digits;
 use crate::pairs::cr_fits;
 use crate::pairs::digit_fits;
 use hex::Digit;
@@ -6,25 +7,14 @@ use pending::Scanned;
 use pending::push;
 use pending::restart;
 ghost use mathlib.Core.Path.{_≡_};
-ghost use Prim.Native.Nat.{_≤_, min};
-ghost use lib.Dec.{ltb};
+ghost use mathlib.Core.Bool.{false};
+ghost use Prim.Native.Nat.{_≤_, _<_, min};
 ghost use lib.ListN.{length, drop};
-ghost use Rattle.base.specs.Choice.{both};
+ghost use Rattle.base.specs.Choice.{pick};
 ghost use Rattle.hex.specs.Hex.{isHex};
-ghost use Rattle.pending.specs.Scanning.{scanFrom, scanIn};
-ghost use Rattle.ascii_scan.specs.Scan.{ended, goesOn, again, ends, fed, feeding};
-
-// What is pending after a byte, and whether a message has ended.
-struct Fed {
-    len: usize,
-    taken: bool,
-}
-
-// What is pending after some digits, and the place of the byte behind them.
-struct Run {
-    len: usize,
-    place: usize,
-}
+ghost use Rattle.pending.specs.Held.{pushed};
+ghost use Rattle.pending.specs.Scanning.{scanFrom, scanOn, scanIn};
+ghost use Rattle.ascii_scan.specs.Scan.{ended, goesOn, again, feeding};
 
 // Scans for the first message: uses the bytes up to its end, or all. A byte is tested once, at its place. The bytes pending are the first `len` of
 // `held`, and stay there.
@@ -37,17 +27,12 @@ pub fn scan(held: &mut [u8; 512], len: usize, bytes: &[u8]) -> Scanned
     let mut n = len;
     let mut i: usize = 0;
     while i < bytes.len() {
-        let f = feed(held, n, bytes[i]);
-        if f.taken {
-            return Scanned {
-                len: f.len,
-                used: i + 1,
-                taken: true,
-            };
+        let s = step(held, n, bytes, i);
+        if s.taken {
+            return s;
         }
-        let r = push_digits(held, f.len, bytes, i + 1);
-        n = r.len;
-        i = r.place;
+        n = s.len;
+        i = s.used;
     }
     Scanned {
         len: n,
@@ -56,76 +41,76 @@ pub fn scan(held: &mut [u8; 512], len: usize, bytes: &[u8]) -> Scanned
     }
 }
 
-// Puts the digits from place `from` on that go on freely behind the `n` bytes pending. Scanning goes on behind them as it would have from `from` on.
-fn push_digits(held: &mut [u8; 512], n: usize, bytes: &[u8], from: usize) -> Run
-    requires { ⌜ from ≤ length (now bytes) ⌝ }
-    ensures onward { λ r. ⌜ from ≤ r .place ⌝ }
-    ensures within { λ r. ⌜ r .place ≤ length (now (bytes .entry)) ⌝ }
-    ensures same { λ r. ⌜ scanFrom feeding (record { bytes = now (held .exit); len = r .len }) (r .place) (drop (r .place) (now (bytes .entry)))
-        ≡ scanFrom feeding (record { bytes = now (held .entry); len = n }) from (drop from (now (bytes .entry))) ⌝ }
+// The bytes from place `i` on, as far as one look at what is pending goes: behind nothing only `:` begins, behind CR only LF ends a message. Scanning
+// goes on behind these bytes as it would have from `i` on.
+fn step(held: &mut [u8; 512], n: usize, bytes: &[u8], i: usize) -> Scanned
+    requires { ⌜ i < length (now bytes) ⌝ }
+    ensures onward { λ r. ⌜ i < r .used ⌝ }
+    ensures within { λ r. ⌜ r .used ≤ length (now (bytes .entry)) ⌝ }
+    ensures same { λ r. ⌜ scanOn feeding (scanIn (now (held .exit)) r) (drop (r .used) (now (bytes .entry)))
+        ≡ scanFrom feeding (record { bytes = now (held .entry); len = n }) i (drop i (now (bytes .entry))) ⌝ }
 {
     if n == 0 {
-        return Run {
-            len: n,
-            place: from,
+        return Scanned {
+            len: begin(held, bytes[i]),
+            used: i + 1,
+            taken: false,
         };
     }
     if ended(held, n) {
-        return Run {
-            len: n,
-            place: from,
-        };
-    }
-    let mut k = n;
-    let mut i = from;
-    while i < bytes.len() {
-        if !is_free(k, bytes[i]) {
-            return Run { len: k, place: i };
-        }
-        held[k] = bytes[i];
-        k += 1;
-        i += 1;
-    }
-    Run { len: k, place: i }
-}
-
-// Whether `b` is a digit that goes on freely behind `n` bytes.
-fn is_free(n: usize, b: u8) -> bool
-    ensures { λ r. ⌜ r ≡ both (ltb n 509) (isHex b) ⌝ }
-{
-    if n < 509 {
-        return is_hex(b);
-    }
-    false
-}
-
-// One byte, where the first `n` of `held` are pending. After CR only LF goes on, and it ends the message.
-fn feed(held: &mut [u8; 512], n: usize, b: u8) -> Fed
-    ensures taken { λ r. ⌜ r .taken ≡ ends (record { bytes = now (held .entry); len = n }) b ⌝ }
-    ensures lent { λ r. ⌜ record { bytes = now (held .exit); len = r .len } ≡ fed (record { bytes = now (held .entry); len = n }) b ⌝ }
-{
-    if ended(held, n) {
-        if b == 0x0A {
-            return Fed {
+        if bytes[i] == 0x0A {
+            return Scanned {
                 len: n,
+                used: i + 1,
                 taken: true,
             };
         }
-        return Fed {
-            len: begin(held, b),
+        return Scanned {
+            len: begin(held, bytes[i]),
+            used: i + 1,
             taken: false,
         };
     }
-    if goes_on(held, n, b) {
-        return Fed {
-            len: push(held, n, b),
+    go_on(held, n, bytes, i)
+}
+
+// The digits from place `i` on that go on freely, and the byte behind them, where CR has not come.
+fn go_on(held: &mut [u8; 512], n: usize, bytes: &[u8], i: usize) -> Scanned
+    requires { ⌜ 1 ≤ n ⌝ }
+    requires { ⌜ ended (record { bytes = now held; len = n }) ≡ false ⌝ }
+    requires { ⌜ i < length (now bytes) ⌝ }
+    ensures onward { λ r. ⌜ i < r .used ⌝ }
+    ensures within { λ r. ⌜ r .used ≤ length (now (bytes .entry)) ⌝ }
+    ensures same { λ r. ⌜ scanOn feeding (scanIn (now (held .exit)) r) (drop (r .used) (now (bytes .entry)))
+        ≡ scanFrom feeding (record { bytes = now (held .entry); len = n }) i (drop i (now (bytes .entry))) ⌝ }
+{
+    let run = push_digits(held, n, &bytes[i..]);
+    let at = i + run;
+    if at == bytes.len() {
+        return Scanned {
+            len: n + run,
+            used: at,
             taken: false,
         };
     }
-    Fed {
-        len: begin(held, b),
+    Scanned {
+        len: feed(held, n + run, bytes[at]),
+        used: at + 1,
         taken: false,
     }
+}
+
+// One byte, where the first `n` of `held` are pending and CR has not come.
+fn feed(held: &mut [u8; 512], n: usize, b: u8) -> usize
+    ensures { λ r. ⌜ record { bytes = now (held .exit); len = r }
+        ≡ pick (goesOn (record { bytes = now (held .entry); len = n }) b)
+        (pushed (record { bytes = now (held .entry); len = n }) b)
+        (again (record { bytes = now (held .entry); len = 0 }) b) ⌝ }
+{
+    if goes_on(held, n, b) {
+        return push(held, n, b);
+    }
+    begin(held, b)
 }
 
 // A byte that spoils what is pending is looked at again, as a beginning of its own.
@@ -159,11 +144,11 @@ pub(crate) fn count_held(n: usize) -> usize
 fn goes_on(held: &[u8; 512], n: usize, b: u8) -> bool
     ensures { λ r. ⌜ r ≡ goesOn (record { bytes = now (held .entry); len = n }) b ⌝ }
 {
-    if is_hex(b) {
-        return digit_fits(held, n, b);
-    }
     if b == 0x0D {
         return cr_fits(held, n);
+    }
+    if is_hex(b) {
+        return digit_fits(held, n, b);
     }
     false
 }

@@ -1,11 +1,7 @@
 // What a line of up to three words says: a command with its numbers, and beside it the bytes that HEX spells.
-use crate::numbers;
-use crate::numbers::Number;
-use crate::numbers::Short;
-use crate::spelling;
-use crate::spelling::Bytes;
-use crate::spelling::Spelling;
-use crate::words;
+use bench_words::Number;
+use bench_words::Short;
+use bench_words::Spelling;
 use card::Protocol;
 use protocols::Named;
 
@@ -58,7 +54,7 @@ fn start(word: &[u8]) -> Command {
 
 // `din1 0`, `din1 1`
 fn din1(level: &[u8]) -> Command {
-    let Number::Word(n) = numbers::between(0, 1, level) else {
+    let Number::Word(n) = bench_words::between(0, 1, level) else {
         return Command::NotACommand;
     };
     Command::Host(Event::Din1(n == 1))
@@ -66,7 +62,7 @@ fn din1(level: &[u8]) -> Command {
 
 // `frq N`, N from -32768 to 32767
 fn frq(number: &[u8]) -> Command {
-    let Short::Word(n) = numbers::between16(32768, 32767, number) else {
+    let Short::Word(n) = bench_words::between16(32768, 32767, number) else {
         return Command::NotACommand;
     };
     Command::Host(Event::Frq(n))
@@ -74,7 +70,7 @@ fn frq(number: &[u8]) -> Command {
 
 // `irms N`, N from -2147483648 to 2147483647
 fn irms(number: &[u8]) -> Command {
-    let Number::Word(n) = numbers::between(2147483648, 2147483647, number) else {
+    let Number::Word(n) = bench_words::between(2147483648, 2147483647, number) else {
         return Command::NotACommand;
     };
     Command::Host(Event::Irms(n))
@@ -82,7 +78,7 @@ fn irms(number: &[u8]) -> Command {
 
 // `tick N`, `raise N`, `end N`, `optime N`: any number of 32 bits
 fn counted(name: &[u8], number: &[u8]) -> Command {
-    let Number::Word(n) = numbers::between(0, u32::MAX, number) else {
+    let Number::Word(n) = bench_words::between(0, u32::MAX, number) else {
         return Command::NotACommand;
     };
     if check::same(name, b"tick") {
@@ -118,8 +114,8 @@ fn with_number(name: &[u8], word: &[u8]) -> Command {
 }
 
 // A name with one word after it, `bytes HEX`, `regdata HEX`, `nreply HEX` among them.
-fn with_one(name: &[u8], word: &[u8], bytes: &mut Bytes) -> Command {
-    let Spelling::Bytes(n) = spelling::spelt(word, bytes) else {
+fn with_one(name: &[u8], word: &[u8], bytes: &mut [u8]) -> Command {
+    let Spelling::Bytes(n) = bench_words::spelt(word, bytes) else {
         return with_number(name, word);
     };
     if check::same(name, b"bytes") {
@@ -135,19 +131,19 @@ fn with_one(name: &[u8], word: &[u8], bytes: &mut Bytes) -> Command {
 }
 
 // `call B HEX`
-fn call(size: &[u8], word: &[u8], bytes: &mut Bytes) -> Command {
-    let Number::Word(b) = numbers::between(0, u32::MAX, size) else {
+fn call(size: &[u8], word: &[u8], bytes: &mut [u8]) -> Command {
+    let Number::Word(b) = bench_words::between(0, u32::MAX, size) else {
         return Command::NotACommand;
     };
-    let Spelling::Bytes(n) = spelling::spelt(word, bytes) else {
+    let Spelling::Bytes(n) = bench_words::spelt(word, bytes) else {
         return Command::NotACommand;
     };
     Command::Call(b as usize, n)
 }
 
 // `mreply P HEX`
-fn modbus_reply(protocol: &[u8], word: &[u8], bytes: &mut Bytes) -> Command {
-    let Spelling::Bytes(n) = spelling::spelt(word, bytes) else {
+fn modbus_reply(protocol: &[u8], word: &[u8], bytes: &mut [u8]) -> Command {
+    let Spelling::Bytes(n) = bench_words::spelt(word, bytes) else {
         return Command::NotACommand;
     };
     if check::same(protocol, b"rtu") {
@@ -160,7 +156,7 @@ fn modbus_reply(protocol: &[u8], word: &[u8], bytes: &mut Bytes) -> Command {
 }
 
 // A name with two words after it.
-fn with_two(name: &[u8], first: &[u8], word: &[u8], bytes: &mut Bytes) -> Command {
+fn with_two(name: &[u8], first: &[u8], word: &[u8], bytes: &mut [u8]) -> Command {
     if check::same(name, b"call") {
         return call(first, word, bytes);
     }
@@ -171,14 +167,18 @@ fn with_two(name: &[u8], first: &[u8], word: &[u8], bytes: &mut Bytes) -> Comman
 }
 
 // The command that the line is. The bytes of its HEX stand at the start of `bytes`.
-pub fn parse(line: &[u8], bytes: &mut Bytes) -> Command {
-    match words::count(line) {
+pub fn parse(line: &[u8], bytes: &mut [u8]) -> Command {
+    match bench_words::count(line) {
         1 => alone(line),
-        2 => with_one(words::word(line, 0), words::word(line, 1), bytes),
+        2 => with_one(
+            bench_words::word(line, 0),
+            bench_words::word(line, 1),
+            bytes,
+        ),
         3 => with_two(
-            words::word(line, 0),
-            words::word(line, 1),
-            words::word(line, 2),
+            bench_words::word(line, 0),
+            bench_words::word(line, 1),
+            bench_words::word(line, 2),
             bytes,
         ),
         _ => Command::NotACommand,

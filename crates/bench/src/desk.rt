@@ -1,31 +1,34 @@
 // Each command is done on the card of the bench or by its master, and its answer printed.
-use crate::asking;
 use crate::command;
 use crate::command::Command;
 use crate::command::Event;
-use crate::hearing;
-use crate::output;
-use crate::output::Out;
-use crate::spelling;
-use crate::spelling::Bytes;
 use crate::state;
-use crate::words;
 use card::After;
 use card::Card;
+use card::Protocol;
 use drive::Measured;
 
+// The answer to what is no command.
+pub fn unknown() {
+    let mut out = [0u8; 2];
+    let n = bench_lines::put(&mut out, 0, b'?');
+    bench_lines::end(&mut out, n);
+}
+
 // `OUTCOME`
-fn outcome(out: &mut Out, number: u32) {
-    let n = output::unsigned(out, 0, number as u64);
-    output::end(out, n);
+fn outcome(number: u32) {
+    let mut out = [0u8; 2048];
+    let n = bench_lines::unsigned(&mut out, 0, number as u64);
+    bench_lines::end(&mut out, n);
 }
 
 // `OUTCOME REPLY`
-fn reply_line(out: &mut Out, number: u32, reply: &[u8]) {
-    let n = output::unsigned(out, 0, number as u64);
-    let m = output::put(out, n, b' ');
-    let l = output::hex(out, m, reply);
-    output::end(out, l);
+fn reply_line(number: u32, reply: &[u8]) {
+    let mut out = [0u8; 2048];
+    let n = bench_lines::unsigned(&mut out, 0, number as u64);
+    let m = bench_lines::put(&mut out, n, b' ');
+    let l = bench_lines::bytes(&mut out, m, reply);
+    bench_lines::end(&mut out, l);
 }
 
 struct Given {
@@ -34,13 +37,13 @@ struct Given {
 }
 
 // One call of `bytes HEX`, with its answer where a message was taken.
-fn give(out: &mut Out, card: Card, scrap: &[u8]) -> Given {
+fn give(card: Card, scrap: &[u8]) -> Given {
     let mut buffer = [0u8; 600];
     let turn = receive::receive(card, scrap, &mut buffer);
     let result = turn.outcome;
     let number = result.number();
     if number != 15 {
-        reply_line(out, number, spelling::first(&buffer, turn.len));
+        reply_line(number, bench_words::first(&buffer, turn.len));
     }
     let next = turn.card;
     Given {
@@ -50,11 +53,11 @@ fn give(out: &mut Out, card: Card, scrap: &[u8]) -> Given {
 }
 
 // `bytes HEX`: a call with the whole scrap, then with the unused rest, until no byte is left. One that used no byte would be the last.
-fn bytes(out: &mut Out, card: Card, scrap: &[u8]) -> Card {
+fn bytes(card: Card, scrap: &[u8]) -> Card {
     let mut next = card;
     let mut at: usize = 0;
     while at <= scrap.len() {
-        let given = give(out, next, &scrap[at..]);
+        let given = give(next, &scrap[at..]);
         let used = given.used;
         let after = given.card;
         next = after;
@@ -70,78 +73,49 @@ fn bytes(out: &mut Out, card: Card, scrap: &[u8]) -> Card {
 }
 
 // `OUTCOME USED LEN BUFFER`
-fn call_line(out: &mut Out, number: u32, used: usize, len: usize, buffer: &[u8]) {
-    let mut n = output::unsigned(out, 0, number as u64);
-    n = output::spaced(out, n, used as u64);
-    n = output::spaced(out, n, len as u64);
-    n = output::put(out, n, b' ');
-    n = output::hex(out, n, buffer);
-    output::end(out, n);
+fn call_line(number: u32, used: usize, len: usize, buffer: &[u8]) {
+    let mut out = [0u8; 2048];
+    let mut n = bench_lines::unsigned(&mut out, 0, number as u64);
+    n = bench_lines::spaced(&mut out, n, used as u64);
+    n = bench_lines::spaced(&mut out, n, len as u64);
+    n = bench_lines::put(&mut out, n, b' ');
+    n = bench_lines::bytes(&mut out, n, buffer);
+    bench_lines::end(&mut out, n);
 }
 
 // One call with a buffer of the size asked.
-fn called(out: &mut Out, card: Card, scrap: &[u8], buffer: &mut [u8]) -> Card {
+fn called(card: Card, scrap: &[u8], buffer: &mut [u8]) -> Card {
     let turn = receive::receive(card, scrap, buffer);
     let result = turn.outcome;
-    call_line(out, result.number(), turn.used, turn.len, buffer);
+    call_line(result.number(), turn.used, turn.len, buffer);
     let next = turn.card;
     next
 }
 
 // `call B HEX`. B is 0 to 600; the line is no command where it is more.
-fn call(out: &mut Out, card: Card, size: usize, scrap: &[u8]) -> Card {
+fn call(card: Card, size: usize, scrap: &[u8]) -> Card {
     let mut buffer = [0xA5u8; 600];
     if size <= 600 {
-        return called(out, card, scrap, &mut buffer[0..size]);
+        return called(card, scrap, &mut buffer[0..size]);
     }
-    output::unknown(out);
+    unknown();
     card
 }
 
 // `regdata HEX`: `OFFSET HEX`, or `-`. Behind the register data of a frame there is its CRC alone.
-fn register_data(out: &mut Out, frame: &[u8]) {
+fn register_data(frame: &[u8]) {
+    let mut out = [0u8; 2048];
     let data = rtu::register_data(frame);
     let behind = data.len() + 2;
     if data.len() == 0 || frame.len() < behind {
-        let n = output::put(out, 0, b'-');
-        output::end(out, n);
+        let n = bench_lines::put(&mut out, 0, b'-');
+        bench_lines::end(&mut out, n);
         return;
     }
-    let mut n = output::unsigned(out, 0, (frame.len() - behind) as u64);
-    n = output::put(out, n, b' ');
-    n = output::hex(out, n, data);
-    output::end(out, n);
-}
-
-// `state`
-fn state(out: &mut Out, card: Card) {
-    let port = card.port;
-    let plant = card.plant;
-    let settings = plant.settings;
-    let rows = settings.words;
-    let drive = plant.drive;
-    let others = [
-        drive.mode,
-        drive.scmd,
-        port.sioerr,
-        drive.frq,
-        drive.rms,
-        drive.optime,
-        drive.din1,
-        drive.causes,
-        drive.flags,
-        port.sum,
-        card.station,
-    ];
-    let pending = port.pending;
-    let bytes = pending.bytes;
-    state::print(
-        out,
-        port.protocol,
-        &rows,
-        &others,
-        spelling::first(&bytes, pending.len),
-    );
+    let mut n = bench_lines::unsigned(&mut out, 0, (frame.len() - behind) as u64);
+    n = bench_lines::put(&mut out, n, b' ');
+    n = bench_lines::bytes(&mut out, n, data);
+    bench_lines::end(&mut out, n);
 }
 
 // What the host tells the card.
@@ -159,54 +133,63 @@ fn tell(card: Card, event: Event) -> After {
 }
 
 // `tick N` and the other events: the outcome alone
-fn host(out: &mut Out, card: Card, event: Event) -> Card {
+fn host(card: Card, event: Event) -> Card {
     let after = tell(card, event);
     let result = after.outcome;
-    outcome(out, result.number());
+    outcome(result.number());
     let next = after.card;
     next
 }
 
+// `nreply HEX`, `mreply P HEX`: a master reads the reply.
+fn hear(protocol: Protocol, reply: &[u8]) {
+    match protocol {
+        Protocol::Nfo => bench_master::hear_nfo(reply),
+        Protocol::Rtu => bench_master::hear_rtu(reply),
+        Protocol::Ascii => bench_master::hear_ascii(reply),
+    }
+}
+
 // Does a command, whose bytes stand at the start of `buffer`.
-fn perform(out: &mut Out, card: Card, command: Command, buffer: &Bytes) -> Card {
+fn perform(card: Card, command: Command, buffer: &[u8]) -> Card {
     match command {
         Command::Start(protocol) => {
-            outcome(out, 0);
+            outcome(0);
             Card::start(protocol)
         }
         Command::Restart => {
-            outcome(out, 0);
+            outcome(0);
             card.restart()
         }
-        Command::Bytes(n) => bytes(out, card, spelling::first(buffer, n)),
-        Command::Call(size, n) => call(out, card, size, spelling::first(buffer, n)),
-        Command::Host(event) => host(out, card, event),
+        Command::Bytes(n) => bytes(card, bench_words::first(buffer, n)),
+        Command::Call(size, n) => call(card, size, bench_words::first(buffer, n)),
+        Command::Host(event) => host(card, event),
         Command::State => {
-            state(out, card);
+            state::print(card);
             card
         }
         Command::RegisterData(n) => {
-            register_data(out, spelling::first(buffer, n));
+            register_data(bench_words::first(buffer, n));
             card
         }
         Command::Hear(protocol, n) => {
-            hearing::hear(out, protocol, spelling::first(buffer, n));
+            hear(protocol, bench_words::first(buffer, n));
             card
         }
         Command::NotACommand => {
-            output::unknown(out);
+            unknown();
             card
         }
     }
 }
 
 // Does the command of a line, and prints its answer.
-pub fn answer(out: &mut Out, card: Card, line: &[u8]) -> Card {
+pub fn answer(card: Card, line: &[u8]) -> Card {
     let mut buffer = [0u8; 1350];
-    if 3 < words::count(line) {
-        asking::answer(out, line, &mut buffer);
+    if 3 < bench_words::count(line) {
+        bench_master::ask(line);
         return card;
     }
     let command = command::parse(line, &mut buffer);
-    perform(out, card, command, &buffer)
+    perform(card, command, &buffer)
 }

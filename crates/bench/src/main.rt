@@ -1,38 +1,30 @@
 // The bench: puts a card, and a master, on the desk. It reads commands on standard input, one a line, and prints their answers; docs/BENCH.md has the language.
-mod asking;
 mod command;
 mod desk;
-mod hearing;
 mod lines;
-mod numbers;
-mod output;
-mod spelling;
 mod state;
-mod words;
 
 use card::Card;
 use card::Protocol;
 use lines::Reader;
 use lines::Text;
-use output::Out;
 
 // Answers the line of the first `len` characters of `text`. An empty one is skipped.
-fn turn(out: &mut Out, card: Card, text: &Text, len: usize) -> Card {
+fn turn(card: Card, text: &Text, len: usize) -> Card {
     if len == 0 {
         return card;
     }
     let characters = &text[..];
     if len <= characters.len() {
-        return desk::answer(out, card, &characters[0..len]);
+        return desk::answer(card, &characters[0..len]);
     }
-    output::unknown(out);
+    desk::unknown();
     card
 }
 
 fn main() {
     let mut scrap = [0u8; 4096];
     let mut text = [0u8; 2700];
-    let mut out = [0u8; 2048];
     let mut reader = Reader::new();
     let mut card = Card::start(Protocol::Nfo);
     let mut turns = u64::MAX;
@@ -41,7 +33,7 @@ fn main() {
         if !reader.whole {
             return;
         }
-        card = turn(&mut out, card, &text, reader.len);
+        card = turn(card, &text, reader.len);
         turns -= 1;
     }
 }

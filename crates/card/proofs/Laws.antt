@@ -1,60 +1,105 @@
 -- Start, restart and host events, case by case. Assumes nothing.
 use mathlib.Core.Path.{_≡_, ap, _∙_}
+use mathlib.Core.Bool.{Bool}
 use Prim.Native.Nat.{ℕ, _+_, _≤_, _<_}
-use borrow.Author.Tests.{lt-ltb, le-ltb, ne-eqb}
+use borrow.Author.Tests.{lt-ltb, le-ltb, eq-eqb, ne-eqb}
 use lib.Bits.{bitOr}
-use Rattle.drive.specs.declared.plant.Drive.{Drive}
-use Rattle.drive.specs.declared.plant.Plant.{Plant}
+use lib.ListN.{getD}
+use Rattle.table.specs.Names.{SioTot}
+use Rattle.port.specs.Port.{Numbers, sum, sioerr, withSum, withSioerr, fresh}
+use Rattle.drive.specs.Plant.{Plant}
 use Rattle.drive.specs.Plant as Plants
-use Rattle.drive.specs.Events.{portFault}
+use Rattle.drive.specs.declared.events.Measured.{Measured}
+use Rattle.drive.specs.Events.{Event, raised, ended, portFault, withActive, withMeasured}
 use Rattle.pending.specs.declared.Pending.{Pending}
 use Rattle.pending.specs.Held as Held
-use Rattle.card.specs.State.{withSioerr, cardSum, protocolNumber, stationOf, freshPort, started, restarted}
-use Rattle.card.specs.Events.{refused, portFaulted, parityTold, limitOf, counted, ticked}
+use Rattle.card.specs.State.{Core, coreOf, protocolOf, withCore, withPlant, protocolNumber, started, restarted}
+use Rattle.card.specs.Events.{Ticked, eventOutcome, told, faultRaised, causeEnded, happened, din1Set, measuredSet, portFaulted, parityTold, counted, tickedIn, ticked}
 use Rattle.card.specs.declared.state.Protocol.{Protocol}
 use Rattle.card.specs.declared.state.Card.{Card}
 use Rattle.card.specs.declared.events.After.{After}
-use Rattle.card.specs.declared.outcome.Outcome.the-variants.{Done}
+use Rattle.card.specs.declared.outcome.Outcome.{Outcome}
+use Rattle.card.specs.declared.outcome.Outcome.the-variants.{Done, NoSuchEvent}
 
--- the parts of the state, each as its routine made it
-pub started-of : (protocol : Protocol) (n : ℕ) (p : Plant) (held : Pending) → p ≡ Plants.started → held ≡ Held.empty → n ≡ protocolNumber protocol
-    → _≡_ {A = Card} (record { port = freshPort held n; plant = p; station = stationOf p }) (started protocol)
+-- ---- the parts of the state, each as its routine made it
+pub started-of : (protocol : Protocol) (q p : Plant) (held : Pending) → p ≡ Plants.started → held ≡ Held.empty → q ≡ fresh (protocolNumber protocol)
+    → _≡_ {A = Card} (record { port = record { pending = held; numbers = q }; plant = p }) (started protocol)
 unfolding started
-started-of protocol n p held a b d = rw (a, b, d)
+started-of protocol q p held a b d = rw (a, b, d)
 
-pub restarted-of : (c : Card) (p : Plant) (held : Pending) → p ≡ Plants.restarted (c .plant) → held ≡ Held.emptied (c .port .pending)
-    → record { port = freshPort held (c .port .protocol); plant = p; station = stationOf p } ≡ restarted c
+pub restarted-of : (c : Card) (q p : Plant) (held : Pending) → p ≡ Plants.restarted (c .plant) → held ≡ Held.emptied (c .port .pending) → q ≡ fresh (protocolOf c)
+    → record { port = record { pending = held; numbers = q }; plant = p } ≡ restarted c
 unfolding restarted
-restarted-of c p held a b = rw (a, b)
+restarted-of c q p held a b d = rw (a, b, d)
 
--- a fault of the port, and one that the host tells
-pub faulted-of : (c : Card) (d : Drive) (bit : ℕ) → d ≡ portFault (c .plant .drive)
-    → record { port = withSioerr (bitOr (c .port .sioerr) bit) (c .port); plant = Plants.withDrive d (c .plant); station = c .station } ≡ portFaulted bit c
+-- ---- events that name a fault: what the event made of the plant, and whether it knew the number
+told-of : (e : Event) (c k : Card) (p : Plant) (known : Bool) (o : Outcome) → record { plant = p; known = known } ≡ e → k ≡ withPlant p c → o ≡ eventOutcome known
+    → record { card = k; outcome = o } ≡ told e c
+unfolding told
+told-of e c k p known o a b d = rw (b, d, ← a)
+
+pub raised-of : (c k : Card) (n : ℕ) (p : Plant) (known : Bool) (o : Outcome) → record { plant = p; known = known } ≡ raised n (c .plant) → k ≡ withPlant p c → o ≡ eventOutcome known
+    → record { card = k; outcome = o } ≡ faultRaised n c
+unfolding faultRaised
+raised-of c k n p known o = told-of (raised n (c .plant)) c k p known o
+
+pub ended-of : (c k : Card) (n : ℕ) (p : Plant) (known : Bool) (o : Outcome) → record { plant = p; known = known } ≡ ended n (c .plant) → k ≡ withPlant p c → o ≡ eventOutcome known
+    → record { card = k; outcome = o } ≡ causeEnded n c
+unfolding causeEnded
+ended-of c k n p known o = told-of (ended n (c .plant)) c k p known o
+
+-- ---- events that are never refused
+pub din1-of : (c k : Card) (active : Bool) (p : Plant) → p ≡ withActive active (c .plant) → k ≡ withPlant p c → record { card = k; outcome = Done } ≡ din1Set active c
+unfolding din1Set
+din1-of c k active p a b = rw (b, a)
+
+pub measured-of : (c k : Card) (measured : Measured) (p : Plant) → p ≡ withMeasured measured (c .plant) → k ≡ withPlant p c → record { card = k; outcome = Done } ≡ measuredSet measured c
+unfolding measuredSet
+measured-of c k measured p a b = rw (b, a)
+
+-- ---- events of the port
+pub faulted-of : (q : Numbers) (p x : Plant) (bit : ℕ) → x ≡ portFault p → _≡_ {A = Core} (record { port = withSioerr (bitOr (sioerr q) bit) q; plant = x }) (portFaulted bit (record { port = q; plant = p }))
 unfolding portFaulted
-faulted-of c d bit a = rw a
+faulted-of q p x bit a = rw a
 
-pub parity-of : (c k : Card) → k ≡ portFaulted 2 c → _≡_ {A = After} (record { card = k; outcome = Done }) (parityTold c)
+pub parity-of : (c k : Card) (y x : Plant) → _≡_ {A = Core} (record { port = y; plant = x }) (portFaulted 2 (coreOf c)) → k ≡ withCore (record { port = y; plant = x }) c
+    → record { card = k; outcome = Done } ≡ parityTold c
 unfolding parityTold
-parity-of c k a = rw a
+parity-of c k y x a b = ap (λ (z : Card). record { card = z; outcome = Done }) (b ∙ ap (λ (t : Core). withCore t c) a)
 
--- an event on the drive, told to the card
-pub lifted : {A : Type 0} (say : A → Card → After) (c : Card) (a b : A) (r : After) → a ≡ b → r ≡ say a c → r ≡ say b c
-lifted say c a b r h e = rw (← h) e
+-- the time sum: no time-out at a limit of 0, the sum above the limit, the sum up to it
+module _ (q : Numbers) (p : Plant) (limit n total : ℕ) where
+  pub counted-off : limit ≡ 0 → _≡_ {A = Core} (record { port = withSum 0 q; plant = p }) (counted limit n (record { port = q; plant = p }))
+  unfolding counted
+  counted-off h = simp (eq-eqb _ _ h)
 
--- the sum goes above SioTot
-pub counted-above : (c zeroed r : Card) (limit n : ℕ) → (limit ≡ 0 → ⊥) → limit < c .port .sum + n → zeroed ≡ cardSum 0 c → r ≡ portFaulted 1 zeroed → r ≡ counted limit n c
-unfolding counted
-counted-above c zeroed r limit n h l z e = e ∙ ap (portFaulted 1) z ∙ simp (ne-eqb _ _ h, lt-ltb _ _ l)
+  pub counted-above : (y x : Plant) → (limit ≡ 0 → ⊥) → total ≡ sum q + n → limit < total
+      → _≡_ {A = Core} (record { port = y; plant = x }) (portFaulted 1 (record { port = withSum 0 q; plant = p }))
+      → _≡_ {A = Core} (record { port = y; plant = x }) (counted limit n (record { port = q; plant = p }))
+  unfolding counted
+  counted-above y x h t l e = simp (ne-eqb _ _ h, lt-ltb _ _ (rw t at l)) e
 
--- a tick out of its range is refused, and one in its range counts
-pub ticked-0 : (c : Card) (n : ℕ) → n < 1 → refused c ≡ ticked n c
+  pub counted-up : (limit ≡ 0 → ⊥) → total ≡ sum q + n → total ≤ limit → _≡_ {A = Core} (record { port = withSum total q; plant = p }) (counted limit n (record { port = q; plant = p }))
+  unfolding counted
+  counted-up h t l = simp (t, ne-eqb _ _ h, le-ltb _ _ (rw t at l))
+
+module _ (q : Numbers) (p : Plant) (n : ℕ) where
+  -- a tick out of its range is refused, and one in its range counts
+  pub ticked-0 : n < 1 → _≡_ {A = Ticked} (record { core = record { port = q; plant = p }; outcome = NoSuchEvent }) (tickedIn n (record { port = q; plant = p }))
+  unfolding tickedIn
+  ticked-0 h = simp (lt-ltb n 1 h)
+
+  pub ticked-above : 1 ≤ n → 250 < n → _≡_ {A = Ticked} (record { core = record { port = q; plant = p }; outcome = NoSuchEvent }) (tickedIn n (record { port = q; plant = p }))
+  unfolding tickedIn
+  ticked-above l h = simp (le-ltb n 1 l, lt-ltb 250 n h)
+
+  pub ticked-counted : (y x : Plant) → 1 ≤ n → n ≤ 250 → _≡_ {A = Core} (record { port = y; plant = x }) (counted (getD p SioTot 0) n (record { port = q; plant = p }))
+      → _≡_ {A = Ticked} (record { core = record { port = y; plant = x }; outcome = Done }) (tickedIn n (record { port = q; plant = p }))
+  unfolding tickedIn
+  ticked-counted y x a b e = rw e (simp (le-ltb n 1 a, le-ltb 250 n b))
+
+-- a tick of the whole card
+pub ticked-of : (c k : Card) (n : ℕ) (y x : Plant) (o : Outcome) → _≡_ {A = Ticked} (record { core = record { port = y; plant = x }; outcome = o }) (tickedIn n (coreOf c))
+    → k ≡ withCore (record { port = y; plant = x }) c → record { card = k; outcome = o } ≡ ticked n c
 unfolding ticked
-ticked-0 c n h = simp (lt-ltb n 1 h)
-
-pub ticked-above : (c : Card) (n : ℕ) → 1 ≤ n → 250 < n → refused c ≡ ticked n c
-unfolding ticked
-ticked-above c n l h = simp (le-ltb n 1 l, lt-ltb 250 n h)
-
-pub ticked-counted : (c after : Card) (n : ℕ) → 1 ≤ n → n ≤ 250 → after ≡ counted (limitOf c) n c → _≡_ {A = After} (record { card = after; outcome = Done }) (ticked n c)
-unfolding ticked
-ticked-counted c after n a b e = rw e (simp (le-ltb n 1 a, le-ltb 250 n b))
+ticked-of c k n y x o a b = rw (b, ← a)

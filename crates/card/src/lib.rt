@@ -6,7 +6,12 @@ mod outcome;
 mod state;
 
 pub use events::After;
+pub use events::event_outcome;
+pub use events::parity_fault_in;
+pub use events::tick_in;
 pub use outcome::Outcome;
 pub use state::Card;
 pub use state::Port;
 pub use state::Protocol;
+pub use state::fresh_port;
+pub use state::restarted_port;

@@ -1,8 +1,10 @@
 // The state, at start and after a restart.
 use drive::Plant;
 use pending::Pending;
-use table::names::MB_ADR;
+use port::Numbers;
+use port::PROTOCOL;
 ghost use mathlib.Core.Path.{_≡_};
+ghost use Rattle.port.specs.Port.{fresh};
 ghost use Rattle.card.specs.State.{protocolNumber, started, restarted};
 
 // The protocol of a port, chosen at start. In the state it is a number: 0 NFO serial, 1 Modbus RTU, 2 Modbus ASCII.
@@ -12,21 +14,18 @@ pub enum Protocol {
     Ascii,
 }
 
-// What belongs to one line: the bytes pending, the protocol, the time sum in tenths, SioErr.
+// What belongs to one line: the bytes pending, and the port's numbers.
 #[repr(C)]
 pub struct Port {
     pub pending: Pending,
-    pub protocol: u32,
-    pub sum: u32,
-    pub sioerr: u32,
+    pub numbers: Numbers,
 }
 
-// The whole state. Every bit pattern is a card. `station` is what MbAdr held at the last start or restart.
+// The whole state: a plant behind a port. Every bit pattern is a card.
 #[repr(C)]
 pub struct Card {
     pub port: Port,
     pub plant: Plant,
-    pub station: u32,
 }
 
 fn number_of(protocol: Protocol) -> u32
@@ -39,23 +38,31 @@ fn number_of(protocol: Protocol) -> u32
     }
 }
 
+// The numbers of a fresh port of this protocol.
+pub fn fresh_port(protocol: Protocol) -> Numbers
+    ensures { λ r. ⌜ r ≡ fresh (protocolNumber protocol) ⌝ }
+{
+    [number_of(protocol), 0, 0]
+}
+
+// The numbers of a port after a restart: the protocol is kept, time sum and SioErr are 0.
+pub fn restarted_port(port: Numbers) -> Numbers
+    ensures { λ r. ⌜ r ≡ fresh (Rattle.port.specs.Port.protocol port) ⌝ }
+{
+    [port[PROTOCOL], 0, 0]
+}
+
 impl Card {
-    // A card at start: the settings' start words, MODE 1, DIN1 inactive, no cause, nothing pending.
+    // A card at start: the table's start words, DIN1 inactive, no cause, nothing pending.
     pub fn start(protocol: Protocol) -> Card
         ensures { λ r. ⌜ r ≡ started protocol ⌝ }
     {
-        let plant = Plant::start();
-        let pending = Pending::empty();
-        let settings = plant.settings;
         Card {
             port: Port {
-                pending,
-                protocol: number_of(protocol),
-                sum: 0,
-                sioerr: 0,
+                pending: Pending::empty(),
+                numbers: fresh_port(protocol),
             },
-            plant,
-            station: settings.words[MB_ADR],
+            plant: drive::start(),
         }
     }
 
@@ -63,21 +70,17 @@ impl Card {
     pub fn restart(self) -> Card
         ensures { λ r. ⌜ r ≡ restarted self ⌝ }
     {
-        let before = self.plant;
-        let plant = before.restart();
-        let settings = plant.settings;
         let port = self.port;
         let held = port.pending;
-        let pending = held.emptied();
+        let numbers = port.numbers;
+        let mut plant = self.plant;
+        drive::restart(&mut plant);
         Card {
             port: Port {
-                pending,
-                protocol: port.protocol,
-                sum: 0,
-                sioerr: 0,
+                pending: held.emptied(),
+                numbers: restarted_port(numbers),
             },
             plant,
-            station: settings.words[MB_ADR],
         }
     }
 }

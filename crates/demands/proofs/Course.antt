@@ -11,21 +11,19 @@ use Rattle.base.proofs.Tests.{pick-both}
 use Rattle.pending.specs.declared.Pending.{Pending}
 use Rattle.pending.specs.Scanning.{Scan, scanFrom}
 use Rattle.pending.proofs.Scans.{scan-after}
+use Rattle.port.specs.Port.{protocol}
 use Rattle.card.specs.declared.state.Card.{Card}
-use Rattle.card.specs.State.{withPort, withPending}
+use Rattle.card.specs.State.{protocolOf, withPending}
 use Rattle.turn.specs.Turn.{Received, waiting, cardAfter, answered}
 use Rattle.turn.specs.Stream.{Stream, byScan, streamed}
 use Rattle.receive.specs.Receive.{received}
 use Rattle.demands.specs.Calls.{Protocol, Course, Calls, over, call, Speaks, adding, ended}
-
--- the card with these bytes pending
-abbrev pub pendingOn : Pending → Card → Card
-pendingOn q c = withPort (withPending q (c .port)) c
+use Rattle.demands.proofs.Serving.{after-speaks}
 
 module _ (S : Stream) where
   -- what the card makes of the message that q holds
   abbrev pub one : Card → Pending → Received
-  one c q = answered c q 0 (S .served c q) (S .reply c q)
+  one c q = answered q 0 (S .served c q) (S .reply c q)
 
   -- one byte after the other
   unfoldable pub course : Card → List ℕ → Course
@@ -33,15 +31,15 @@ module _ (S : Stream) where
   course c (b ∷ s) =
       pick (S .feeding .ends (c .port .pending) b)
       (adding (one c (S .feeding .next (c .port .pending) b)) (course (one c (S .feeding .next (c .port .pending) b) .card) s))
-      (course (pendingOn (S .feeding .next (c .port .pending) b) c) s)
+      (course (withPending (S .feeding .next (c .port .pending) b) c) s)
 
   -- a call, with a buffer that is not too short
   abbrev pub scanOf : Card → List ℕ → Received
   scanOf c x = byScan S c (scanFrom (S .feeding) (c .port .pending) 0 x)
 
-  module _ (same : (c : Card) (q r : Pending) → (S .served (pendingOn q c) r ≡ S .served c r) × (S .reply (pendingOn q c) r ≡ S .reply c r)) where
+  module _ (same : (c : Card) (q r : Pending) → (S .served (withPending q c) r ≡ S .served c r) × (S .reply (withPending q c) r ≡ S .reply c r)) where
     -- a scan is the same from a card that has other bytes pending
-    scan-same : (c : Card) (q : Pending) (scan : Scan) → byScan S (pendingOn q c) scan ≡ byScan S c scan
+    scan-same : (c : Card) (q : Pending) (scan : Scan) → byScan S (withPending q c) scan ≡ byScan S c scan
     unfolding waiting cardAfter
     scan-same c q scan =
         let e = same c q (scan .pending) in
@@ -70,7 +68,7 @@ module _ (S : Stream) where
             let l : Received = byScan S c (after t) in
             adding r (course (r .card) (drop (r .used) (b ∷ x) ++ y)) ≡ adding l (course (l .card) (drop (l .used) x ++ y))
         go true = ap (λ (n : ℕ). adding (one c (scan .pending)) (course (one c (scan .pending) .card) (drop n (b ∷ x) ++ y))) more
-        go false = ap (λ (n : ℕ). adding (waiting c scan) (course (pendingOn (scan .pending) c) (drop n (b ∷ x) ++ y))) more
+        go false = ap (λ (n : ℕ). adding (waiting c scan) (course (withPending (scan .pending) c) (drop n (b ∷ x) ++ y))) more
 
     -- what a call on z handed back, and then the rest
     abbrev rest : List ℕ → Received → List ℕ → Course
@@ -80,13 +78,13 @@ module _ (S : Stream) where
     pub course-call : (x y : List ℕ) (c : Card) → course c (x ++ y) ≡ adding (scanOf c x) (course (scanOf c x .card) (drop (scanOf c x .used) x ++ y))
     unfolding course scanFrom waiting
     course-call [] y c = refl
-    course-call (b ∷ x) y c = by (S .feeding .ends (c .port .pending) b) (course-call x y (pendingOn q c))
+    course-call (b ∷ x) y c = by (S .feeding .ends (c .port .pending) b) (course-call x y (withPending q c))
       where
         q : Pending
         q = S .feeding .next (c .port .pending) b
 
-        by : (t : Bool) → course (pendingOn q c) (x ++ y) ≡ rest y (scanOf (pendingOn q c) x) x
-            → pick t (adding (one c q) (course (one c q .card) (x ++ y))) (course (pendingOn q c) (x ++ y))
+        by : (t : Bool) → course (withPending q c) (x ++ y) ≡ rest y (scanOf (withPending q c) x) x
+            → pick t (adding (one c q) (course (one c q .card) (x ++ y))) (course (withPending q c) (x ++ y))
             ≡ rest y (byScan S c (pick t (record { pending = q; used = 1; taken = true }) (scanFrom (S .feeding) q 1 x))) (b ∷ x)
         by true ih = refl
         by false ih =
@@ -94,17 +92,20 @@ module _ (S : Stream) where
             ∙ ap (λ (z : Scan). rest y (byScan S c z) (b ∷ x)) (sym (scan-after (S .feeding) x q 1 0))
 
     -- ---- THE CALLS: whatever they are, what comes of the stream is its course
-    module _ (P : Protocol) (calls : (c : Card) (x : List ℕ) (room : ℕ) → Speaks P c → received c x room ≡ streamed S c x room) where
+    module _ (P : Protocol) (calls : (c : Card) (x : List ℕ) (room : ℕ) → Speaks P c → received c x room ≡ streamed S c x room)
+        (speaks : (c : Card) (q : Pending) → protocol (S .served c q .port) ≡ protocolOf c) where
       called : (c : Card) (x : List ℕ) (room : ℕ) → Speaks P c → 19 ≤ room → received c x room ≡ scanOf c x
       called c x room p h = calls c x room p ∙ simp (le-ltb room 19 h)
 
       -- a call leaves the port's protocol as it is
-      keeps : (c : Card) (scan : Scan) → byScan S c scan .card .port .protocol ≡ c .port .protocol
+      keeps : (c : Card) (scan : Scan) → protocolOf (byScan S c scan .card) ≡ protocolOf c
       unfolding waiting cardAfter
-      keeps c scan = pick-both (λ (r : Received). r .card .port .protocol ≡ c .port .protocol) (scan .taken) (λ e. refl) (λ e. refl)
+      keeps c scan =
+          let s = S .served c (scan .pending) in
+          pick-both (λ (r : Received). protocolOf (r .card) ≡ protocolOf c) (scan .taken) (λ e. after-speaks (s .answer) (s .port) ∙ speaks c (scan .pending)) (λ e. refl)
 
       still : (c : Card) (x : List ℕ) (room : ℕ) → Speaks P c → 19 ≤ room → Speaks P (received c x room .card)
-      still c x room p h = ap (λ (r : Received). r .card .port .protocol) (called c x room p h) ∙ keeps c (scanFrom (S .feeding) (c .port .pending) 0 x) ∙ p
+      still c x room p h = ap (λ (r : Received). protocolOf (r .card)) (called c x room p h) ∙ keeps c (scanFrom (S .feeding) (c .port .pending) 0 x) ∙ p
 
       pub calls-course : {c : Card} {s : List ℕ} {k : Course} → Speaks P c → Calls c s k → k ≡ course c s
       unfolding course

@@ -6,15 +6,17 @@ use Prim.Native.Nat.{ℕ, _≤_}
 use native.Mathlib.Omega.{arith}
 use borrow.Author.Tests.{ltb-false}
 use lib.Dec.{ltb}
-use lib.ListN.{length}
+use lib.ListN.{length, getD}
 use Rattle.base.specs.Choice.{pick, either}
 use Rattle.base.specs.Order.{when, firstOf, saying}
 use Rattle.base.proofs.Tests.{pick-yes}
 use Rattle.base.proofs.Sets.{fitting-none}
-use Rattle.drive.specs.declared.plant.Drive.{Drive}
+use Rattle.table.specs.Names.{SioTot}
+use Rattle.drive.specs.Plant.{Plant}
 use Rattle.drive.specs.Events.{isFault, event, raised, ended}
 use Rattle.nfo_service.specs.Reply as NfoReply
-use Rattle.card.specs.Events.{happened, refused, told, faultRaised, causeEnded, din1Set, measuredSet, parityTold, ticked}
+use Rattle.card.specs.State.{Core, coreOf, withCore, withPlant}
+use Rattle.card.specs.Events.{eventOutcome, told, faultRaised, causeEnded, din1Set, measuredSet, parityTold, counted, Ticked, tickedIn, ticked}
 use Rattle.card.specs.Outcome.{numberOf}
 use Rattle.card.specs.declared.state.Card.{Card}
 use Rattle.card.specs.declared.events.After.{After}
@@ -55,7 +57,11 @@ receiving =
     }
 
 -- ---- events
-refuses : (t : Bool) (c d : Card) (a : After) → a ≡ pick t (refused c) (record { card = d; outcome = Done }) → Refuses t c a
+-- the card as it was, and 12; or another card, and 0
+abbrev after : Bool → Card → Card → After
+after t c d = pick t (record { card = c; outcome = NoSuchEvent }) (record { card = d; outcome = Done })
+
+refuses : (t : Bool) (c d : Card) (a : After) → a ≡ after t c d → Refuses t c a
 refuses true c d a e =
     (λ n. gives numberOf (when true NoSuchEvent ∷ []) (numberOf (a .outcome)) n (ap (λ (x : After). numberOf (x .outcome)) e), λ _. ap (λ (x : After). x .card) e)
 refuses false c d a e = (
@@ -64,21 +70,36 @@ refuses false c d a e = (
 )
 
 -- a known fault
-tells : (n : ℕ) (d : Drive) (c : Card) → Refuses (not (isFault n)) c (told (event n d (c .plant .drive)) c)
-unfolding told happened
-tells n d c = refuses (not (isFault n)) c (happened d c .card) (told (event n d (c .plant .drive)) c) (go (isFault n))
+tells : (n : ℕ) (p : Plant) (c : Card) → Refuses (not (isFault n)) c (told (event n p (c .plant)) c)
+unfolding told eventOutcome
+tells n p c = refuses (not (isFault n)) c (withPlant p c) (told (event n p (c .plant)) c) (go (isFault n))
   where
-    go : (t : Bool) → told (pick t (record { drive = d; known = true }) (record { drive = c .plant .drive; known = false })) c ≡ pick (not t) (refused c) (record { card = happened d c .card; outcome = Done })
+    go : (t : Bool) → told (pick t (record { plant = p; known = true }) (record { plant = c .plant; known = false })) c ≡ after (not t) c (withPlant p c)
+    go true = refl
+    go false = refl
+
+-- a number of tenths
+ticks : (n : ℕ) (c : Card) → Refuses (either (ltb n 1) (ltb 250 n)) c (ticked n c)
+unfolding ticked tickedIn
+ticks n c = refuses (either (ltb n 1) (ltb 250 n)) c (withCore k c) (ticked n c) (go (either (ltb n 1) (ltb 250 n)))
+  where
+    k : Core
+    k = counted (getD (c .plant) SioTot 0) n (coreOf c)
+
+    of-core : Ticked → After
+    of-core t = record { card = withCore (t .core) c; outcome = t .outcome }
+
+    go : (t : Bool) → of-core (pick t (record { core = coreOf c; outcome = NoSuchEvent }) (record { core = k; outcome = Done })) ≡ after t c (withCore k c)
     go true = refl
     go false = refl
 
 events : Events
-unfolding faultRaised causeEnded raised ended happened din1Set measuredSet parityTold ticked
+unfolding faultRaised causeEnded raised ended din1Set measuredSet parityTold
 events =
     record {
       raise = λ n c. tells n _ c;
       end = λ n c. tells n _ c;
-      tick = λ n c. refuses (either (ltb n 1) (ltb 250 n)) c _ (ticked n c) refl;
+      tick = ticks;
       din1 = λ active c. refl;
       measure = λ measured c. refl;
       parity = λ c. refl;

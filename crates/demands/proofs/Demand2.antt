@@ -6,6 +6,7 @@ use Prim.Native.Nat.{ℕ}
 use native.Mathlib.Omega.{arith}
 use borrow.Author.Tests.{le-ltb}
 use lib.ListN.{length, getD}
+use Rattle.drive.specs.Plant.{station}
 use Rattle.nfo.proofs.Lawful.{nfo-lawful}
 use Rattle.modbus.specs.declared.replies.Answer as Units
 use Rattle.rtu.specs.Rtu.{addressIn, unitIn}
@@ -54,19 +55,19 @@ requests =
     }
 
 -- ---- the replies
-ours : (c : Card) (a : ℕ) (u : List ℕ) (x : Units.Answer) → Within 1 247 (c .station) → exchanged (c .plant) (c .port .sioerr) (c .station) a u .reply ≡ Data x → Within 1 247 a
-ours c a u x h e = let s : a ≡ c .station = from-us (c .plant) (c .port .sioerr) (c .station) a u x e in (omega (arith, s, h .0), omega (arith, s, h .1))
+ours : (c : Card) (a : ℕ) (u : List ℕ) (x : Units.Answer) → Within 1 247 (station (c .plant)) → exchanged (c .plant) (c .port .numbers) a u .reply ≡ Data x → Within 1 247 a
+ours c a u x h e = let s : a ≡ station (c .plant) = from-us (c .plant) (c .port .numbers) a u x e in (omega (arith, s, h .0), omega (arith, s, h .1))
 
 replies : Replies
 replies =
     record {
       nfo = told-back;
       rtu = λ c h frame x e.
-          Frames.answer-back (addressIn frame) x (ours c (addressIn frame) (unitIn frame) x h e) (answers (c .plant) (c .port .sioerr) (c .station) (addressIn frame) (unitIn frame) x e);
+          Frames.answer-back (addressIn frame) x (ours c (addressIn frame) (unitIn frame) x h e) (answers (c .plant) (c .port .numbers) (addressIn frame) (unitIn frame) x e);
       ascii = λ c h m x e.
           let bytes : List ℕ = Text.bytesIn m in
-          Texts.answer-back (getD bytes 0 0) x (ours c (getD bytes 0 0) (unitAmong bytes) x h e) (answers (c .plant) (c .port .sioerr) (c .station) (getD bytes 0 0) (unitAmong bytes) x e)
-          (widths (c .plant) (c .port .sioerr) (c .station) (getD bytes 0 0) m x e);
+          Texts.answer-back (getD bytes 0 0) x (ours c (getD bytes 0 0) (unitAmong bytes) x h e) (answers (c .plant) (c .port .numbers) (getD bytes 0 0) (unitAmong bytes) x e)
+          (widths (c .plant) (c .port .numbers) (getD bytes 0 0) m x e);
     }
 
 pub demand-2 : Demand2

@@ -19,7 +19,10 @@ use Rattle.nfo.proofs.Alone as Alone
 use Rattle.ascii.proofs.Lawful.{ascii-lawful, ascii-stream}
 use Rattle.ascii_scan.proofs.Follows.{ascii-follows}
 use Rattle.ascii_scan.proofs.Parsed.{message-held}
+use Rattle.port.specs.Port.{protocol}
+use Rattle.card.specs.State.{protocolOf, withPending}
 use Rattle.card.specs.declared.state.Card.{Card}
+use Rattle.modbus_service.specs.Reply.{exchanged}
 use Rattle.turn.specs.Stream.{Stream, streamed}
 use Rattle.nfo_port.specs.Receive.{nfoStream, nfoReceived}
 use Rattle.ascii_port.specs.Receive.{asciiStream, asciiReceived}
@@ -27,7 +30,8 @@ use Rattle.receive.specs.Receive.{received}
 use Rattle.receive.proofs.Laws.{by-nfo, by-ascii}
 use Rattle.demands.specs.Calls.{Protocol, Course, Calls, Speaks, servedAll}
 use Rattle.demands.specs.Demand3.{nfoSerial, modbusAscii, NothingPending, besides, Same, Demand3}
-use Rattle.demands.proofs.Course.{pendingOn, course, calls-course, some-calls}
+use Rattle.demands.proofs.Serving.{nfo-speaks, modbus-speaks}
+use Rattle.demands.proofs.Course.{course, calls-course, some-calls}
 use Rattle.demands.proofs.Reading.{Alike, reads}
 
 -- what makes a protocol one that comes as a stream
@@ -36,16 +40,18 @@ pub record Streams (P : Protocol) (S : Stream) : Type 0 where
   pub theory : StreamTheorem (P .format)
   pub follows : Follows (P .format) (S .feeding)
   pub calls : (c : Card) (x : List ℕ) (room : ℕ) → Speaks P c → received c x room ≡ streamed S c x room
+  -- a message leaves the port's protocol as it is
+  pub speaks : (c : Card) (q : Pending) → protocol (S .served c q .port) ≡ protocolOf c
   -- a message that is held is served as its bytes are
   pub takes : (c : Card) (q : Pending) → Sized q → P .format .formed (S .feeding .message q) ≡ true
       → (S .served c q ≡ P .served c (S .feeding .message q)) × (S .reply c q ≡ P .reply c (S .feeding .message q))
   -- and by what the card holds besides the bytes pending
-  pub same : (c : Card) (q r : Pending) → (S .served (pendingOn q c) r ≡ S .served c r) × (S .reply (pendingOn q c) r ≡ S .reply c r)
+  pub same : (c : Card) (q r : Pending) → (S .served (withPending q c) r ≡ S .served c r) × (S .reply (withPending q c) r ≡ S .reply c r)
   pub alone : (c : Card) (m : List ℕ) → (P .served c m ≡ P .served (besides c) m) × (P .reply c m ≡ P .reply (besides c) m)
 
 module _ (P : Protocol) (S : Stream) (H : Streams P S) where
   of-calls : (c : Card) (s : List ℕ) (k : Course) → Speaks P c → Calls c s k → k ≡ course S c s
-  of-calls c s k p = calls-course S (H .same) P (H .calls) p
+  of-calls c s k p = calls-course S (H .same) P (H .calls) (H .speaks) p
 
   reading : (c : Card) → Speaks P c → NothingPending c → (s : List ℕ) (k : Course) → Calls c s k → (y : Yield) → Reads (P .format) 0 s y → Same P c k y
   reading c p (none, size) s k l y r =
@@ -60,7 +66,7 @@ module _ (P : Protocol) (S : Stream) (H : Streams P S) where
       record {
         reading = reading;
         any-cut = λ c p s k l a b. of-calls c s k p a ∙ sym (of-calls c s l p b);
-        some-calls = λ c p s. some-calls S (H .same) P (H .calls) s c p;
+        some-calls = λ c p s. some-calls S (H .same) P (H .calls) (H .speaks) s c p;
         theory = H .theory;
       }
 
@@ -76,6 +82,7 @@ nfo-streams =
       theory = nfo-stream;
       follows = nfo-follows;
       calls = nfo-calls;
+      speaks = λ c q. nfo-speaks (c .plant) (c .port .numbers) _;
       takes = λ c q size w. rw (Alone.message-held q w) (refl, refl);
       same = λ c q r. (refl, refl);
       alone = λ c m. (refl, refl);
@@ -86,6 +93,10 @@ pub ascii-calls : (c : Card) (x : List ℕ) (room : ℕ) → Speaks modbusAscii 
 unfolding asciiReceived
 ascii-calls c x room p = by-ascii c x room p
 
+ascii-speaks : (c : Card) (q : Pending) → protocol (asciiStream .served c q .port) ≡ protocolOf c
+unfolding exchanged
+ascii-speaks c q = modbus-speaks (c .plant) (c .port .numbers) _ _
+
 ascii-streams : Streams modbusAscii asciiStream
 ascii-streams =
     record {
@@ -93,6 +104,7 @@ ascii-streams =
       theory = ascii-stream;
       follows = ascii-follows;
       calls = ascii-calls;
+      speaks = ascii-speaks;
       takes = λ c q size w. rw (message-held q w) (refl, refl);
       same = λ c q r. (refl, refl);
       alone = λ c m. (refl, refl);

@@ -8,16 +8,16 @@ use native.Mathlib.Omega.{arith}
 use lib.Dec.{eqb, ltb}
 use lib.ListN.{length, getD}
 use Rattle.base.specs.Choice.{pick}
-use Rattle.base.specs.Order.{Line, firstOf, saying}
 use Rattle.base.proofs.Tests.{pick-both}
-use Rattle.drive.specs.declared.plant.Plant.{Plant}
+use Rattle.port.specs.Port.{Numbers}
+use Rattle.drive.specs.Plant.{Plant}
+use Rattle.table.specs.declared.labels.Row.{Row}
 use Rattle.answers.specs.declared.Answer.{Answer}
 use Rattle.answers.specs.declared.Answer.the-variants.{Told, Written, NotOurs, Refused}
 use Rattle.answers.specs.declared.Refusal.{Refusal}
 use Rattle.answers.specs.declared.Refusal.the-variants as Refusals
 use Rattle.answers.specs.Answer.{refusalNumber, answerNumber}
-use Rattle.service.specs.Serving.{theRow, keeping, toldServed}
-use Rattle.service.specs.Serving.{Served}
+use Rattle.service.specs.Serving.{Served, keeping, toldServed}
 use Rattle.service.proofs.Laws.{wrote-keeps}
 use Rattle.pending.specs.declared.Pending.{Pending}
 use Rattle.pending.specs.Held.{held}
@@ -25,10 +25,9 @@ use Rattle.pending.specs.Scanning.{Scan, Feeding, scanFrom}
 use Rattle.pending.proofs.Laws.{held-emptied}
 use Rattle.nfo_parts.specs.Parts.{messageOf}
 use Rattle.nfo_parts.specs.declared.message.Message.{Message}
-use Rattle.nfo_parts.specs.declared.message.Message.the-variants.{Enquiry, Select}
 use Rattle.nfo_service.specs.Serve as Nfo
 use Rattle.nfo_service.specs.Reply as NfoReply
-use Rattle.card.specs.State.{cardSum}
+use Rattle.card.specs.State.{protocolOf, cardSum}
 use Rattle.card.specs.declared.state.Card.{Card}
 use Rattle.rtu.specs.Rtu.{frameHolds, addressIn, unitIn}
 use Rattle.ascii.specs.Ascii.{bytesIn}
@@ -47,24 +46,20 @@ use Rattle.receive.specs.Receive.{received}
 use Rattle.demands.specs.Orders.{scanOf}
 use Rattle.demands.specs.Demand1.{Leaves}
 use Rattle.demands.specs.Demand3.{besides}
+use Rattle.demands.proofs.Serving.{nfo-each}
 use Rattle.demands.proofs.Numbered.{servedNumber}
 
 -- ---- serving: a number other than 0 changes nothing
-abbrev Keeps : Plant → ℕ → Served → Type 0
-Keeps p s x = (servedNumber x ≡ 0 → ⊥) → x ≡ keeping p s (x .answer)
+module _ (p : Plant) (q : Numbers) where
+  abbrev Keeps : Served → Type 0
+  Keeps s = (servedNumber s ≡ 0 → ⊥) → s ≡ keeping p q (s .answer)
 
-first-keeps : (p : Plant) (s : ℕ) (ls : List (Line Answer)) (x : Served) → Keeps p s x → Keeps p s (firstOf (saying (keeping p s) ls) x)
-first-keeps p s [] x k = k
-first-keeps p s (l ∷ ls) x k = pick-both (Keeps p s) (l .test) (λ _ _. refl) (λ _. first-keeps p s ls x k)
+  tells : (row : Row) → Keeps (toldServed p q row)
+  unfolding toldServed
+  tells row n = absurd (n refl)
 
-nfo-keeps : (p : Plant) (s : ℕ) (m : Message) → Keeps p s (Nfo.served p s m)
-unfolding Nfo.served Nfo.enquiryServed Nfo.selectServed Nfo.rowSelected toldServed
-nfo-keeps p s (Enquiry adr q) = first-keeps p s (Nfo.enquiryLines p adr (Nfo.rowNamed q)) (toldServed p s (theRow (Nfo.rowNamed q))) (λ n. absurd (n refl))
-nfo-keeps p s (Select adr q v) =
-    let row = theRow (Nfo.rowNamed q) in
-    first-keeps p s (Nfo.nameLines p adr (Nfo.rowNamed q)) (Nfo.rowSelected p s adr row v)
-    (first-keeps p s (Nfo.rowLines row v) _
-    (pick-both (Keeps p s) (Nfo.stops (p .drive) adr (row .0) (Nfo.theWord v)) (λ _ n. absurd (n refl)) (λ _. wrote-keeps p s (row .0) (Nfo.theWord v))))
+  nfo-keeps : (m : Message) → Keeps (Nfo.served p q m)
+  nfo-keeps = nfo-each Keeps p q (λ a n. refl) tells (wrote-keeps p q) (λ row w n. absurd (n refl))
 
 -- ---- outcome 1 has no reply
 nfo-silent : (m : Message) (x : Answer) → x ≡ NotOurs → NfoReply.replied m x ≡ []
@@ -131,9 +126,9 @@ module _ (c : Card) (count : ℕ) where
         listed = inr refl;
       }
 
-  module _ (q : Pending) (used : ℕ) (reply : List ℕ) where
+  module _ (pending : Pending) (used : ℕ) (reply : List ℕ) where
     abbrev one : Served → Received
-    one s = answered c q used s reply
+    one s = answered pending used s reply
 
     one-leaves : (s : Served) → servedNumber s ≤ 9 → (servedNumber s ≡ 1 → (besides (one s .card) ≡ besides c) × (reply ≡ []))
         → (2 ≤ servedNumber s → besides (one s .card) ≡ besides (cardSum 0 c)) → Leaves c count (one s)
@@ -143,25 +138,25 @@ module _ (c : Card) (count : ℕ) where
           short = λ e. absurd (omega (arith, e, most));
           spoilt = λ e. absurd (omega (arith, e, most));
           waiting = λ e. absurd (omega (arith, e, most));
-          other = λ e. (other e .0, held-emptied q, other e .1);
-          refused = λ l h. (refused l, held-emptied q);
-          done = λ e. held-emptied q;
+          other = λ e. (other e .0, held-emptied pending, other e .1);
+          refused = λ l h. (refused l, held-emptied pending);
+          done = λ e. held-emptied pending;
           listed = inl (omega (arith, most));
         }
 
-    by-answer : (p : Plant) (e : ℕ) (x : Answer) → Keeps (c .plant) (c .port .sioerr) (keeping p e x) → (x ≡ NotOurs → reply ≡ []) → Leaves c count (one (keeping p e x))
+    by-answer : (p : Plant) (q : Numbers) (x : Answer) → Keeps (c .plant) (c .port .numbers) (keeping p q x) → (x ≡ NotOurs → reply ≡ []) → Leaves c count (one (keeping p q x))
     unfolding cardAfter
-    by-answer p e (Told row w) k n = one-leaves (keeping p e (Told row w)) (omega arith) (λ h. absurd (omega (arith, h))) (λ h. absurd (omega (arith, h)))
-    by-answer p e (Written change) k n = one-leaves (keeping p e (Written change)) (omega arith) (λ h. absurd (omega (arith, h))) (λ h. absurd (omega (arith, h)))
-    by-answer p e NotOurs k n =
-        one-leaves (keeping p e NotOurs) (omega arith) (λ _. (ap (λ (s : Served). besides (one s .card)) (k (λ h. absurd (omega (arith, h)))), n refl)) (λ h. absurd (omega (arith, h)))
-    by-answer p e (Refused x) k n =
+    by-answer p q (Told row w) k n = one-leaves (keeping p q (Told row w)) (omega arith) (λ h. absurd (omega (arith, h))) (λ h. absurd (omega (arith, h)))
+    by-answer p q (Written change) k n = one-leaves (keeping p q (Written change)) (omega arith) (λ h. absurd (omega (arith, h))) (λ h. absurd (omega (arith, h)))
+    by-answer p q NotOurs k n =
+        one-leaves (keeping p q NotOurs) (omega arith) (λ _. (ap (λ (s : Served). besides (one s .card)) (k (λ h. absurd (omega (arith, h)))), n refl)) (λ h. absurd (omega (arith, h)))
+    by-answer p q (Refused x) k n =
         let w = refusal-within x in
-        one-leaves (keeping p e (Refused x)) (w .1) (λ h. absurd (omega (arith, h, w .0)))
+        one-leaves (keeping p q (Refused x)) (w .1) (λ h. absurd (omega (arith, h, w .0)))
         (λ _. ap (λ (s : Served). besides (one s .card)) (k (λ h. absurd (omega (arith, h, w .0)))))
 
-    taken-leaves : (s : Served) → Keeps (c .plant) (c .port .sioerr) s → (s .answer ≡ NotOurs → reply ≡ []) → Leaves c count (one s)
-    taken-leaves s = by-answer (s .plant) (s .sioerr) (s .answer)
+    taken-leaves : (s : Served) → Keeps (c .plant) (c .port .numbers) s → (s .answer ≡ NotOurs → reply ≡ []) → Leaves c count (one s)
+    taken-leaves s = by-answer (s .plant) (s .port) (s .answer)
 
 -- ---- a call of each protocol
 scan-all : (G : Feeding) (s : List ℕ) (p : Pending) (n : ℕ) → scanFrom G p n s .taken ≡ false → scanFrom G p n s .used ≡ n + length s
@@ -179,7 +174,7 @@ module _ (c : Card) (bytes : List ℕ) (room : ℕ) where
   abbrev Q : Received → Type 0
   Q r = Leaves c (length bytes) r
 
-  stream-leaves : (S : Stream) → ((q : Pending) → Keeps (c .plant) (c .port .sioerr) (S .served c q)) → ((q : Pending) → S .served c q .answer ≡ NotOurs → S .reply c q ≡ [])
+  stream-leaves : (S : Stream) → ((q : Pending) → Keeps (c .plant) (c .port .numbers) (S .served c q)) → ((q : Pending) → S .served c q .answer ≡ NotOurs → S .reply c q ≡ [])
       → Leaves c (length bytes) (streamed S c bytes room)
   stream-leaves S keeps silent =
       let scan : Scan = scanOf (S .feeding) c bytes in
@@ -194,7 +189,7 @@ module _ (c : Card) (bytes : List ℕ) (room : ℕ) where
       pick-both Q (ltb room 19) (λ _. short-leaves c (length bytes))
       (λ _. pick-both Q (frameHolds bytes)
       (λ _. taken-leaves c (length bytes) (c .port .pending) (length bytes) (Rtu.frameOf (addressIn bytes) (Rtu.exchangeOn c bytes .reply)) (Rtu.exchangeOn c bytes .served)
-      (served-keeps (c .plant) (c .port .sioerr) (c .station) (addressIn bytes) (unitIn bytes))
+      (served-keeps (c .plant) (c .port .numbers) (addressIn bytes) (unitIn bytes))
       (λ e. ap (Rtu.frameOf (addressIn bytes)) (modbus-silent (addressIn bytes) (unitIn bytes) _ e)))
       (λ _. spoilt-leaves c (length bytes)))
 
@@ -202,13 +197,13 @@ module _ (c : Card) (bytes : List ℕ) (room : ℕ) where
   unfolding asciiReceived ModbusReply.exchanged
   ascii-leaves =
       stream-leaves asciiStream
-      (λ q. served-keeps (c .plant) (c .port .sioerr) (c .station) (getD (bytesIn (held q)) 0 0) (unitAmong (bytesIn (held q))))
+      (λ q. served-keeps (c .plant) (c .port .numbers) (getD (bytesIn (held q)) 0 0) (unitAmong (bytesIn (held q))))
       (λ q e. ap (replyText (getD (bytesIn (held q)) 0 0)) (modbus-silent (getD (bytesIn (held q)) 0 0) (unitAmong (bytesIn (held q))) _ e))
 
   serial-leaves : Leaves c (length bytes) (nfoReceived c bytes room)
   unfolding nfoReceived
-  serial-leaves = stream-leaves nfoStream (λ q. nfo-keeps (c .plant) (c .port .sioerr) (messageOf (q .bytes))) (λ q e. nfo-silent (messageOf (q .bytes)) _ e)
+  serial-leaves = stream-leaves nfoStream (λ q. nfo-keeps (c .plant) (c .port .numbers) (messageOf (q .bytes))) (λ q e. nfo-silent (messageOf (q .bytes)) _ e)
 
   pub received-leaves : Leaves c (length bytes) (received c bytes room)
   unfolding received
-  received-leaves = pick-both Q (eqb (c .port .protocol) 1) (λ _. rtu-leaves) (λ _. pick-both Q (eqb (c .port .protocol) 2) (λ _. ascii-leaves) (λ _. serial-leaves))
+  received-leaves = pick-both Q (eqb (protocolOf c) 1) (λ _. rtu-leaves) (λ _. pick-both Q (eqb (protocolOf c) 2) (λ _. ascii-leaves) (λ _. serial-leaves))

@@ -1,3 +1,4 @@
+pub mod Serving
 pub mod Course
 pub mod Reading
 pub mod Demand3

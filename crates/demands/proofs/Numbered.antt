@@ -10,7 +10,8 @@ use Rattle.base.specs.Choice.{pick, both}
 use Rattle.base.specs.Order.{Line, when, firstOf, saying}
 use Rattle.base.proofs.Tests.{pick-yes, pick-no}
 use Rattle.table.specs.declared.labels.Row.{Row}
-use Rattle.drive.specs.declared.plant.Plant.{Plant}
+use Rattle.port.specs.Port.{Numbers}
+use Rattle.drive.specs.Plant.{Plant, station}
 use Rattle.answers.specs.declared.Answer.{Answer}
 use Rattle.answers.specs.declared.Answer.the-variants.{Refused}
 use Rattle.answers.specs.Answer.{refusalNumber, answerNumber}
@@ -18,9 +19,8 @@ use Rattle.permit.specs.declared.Permit.{Permit}
 use Rattle.permit.specs.declared.Permit.the-variants as Permits
 use Rattle.permit.specs.Refusals.{readOnly, readLine, writeLines}
 use Rattle.permit.specs.Permit.{permitOf}
-use Rattle.writing.specs.Write.{written}
-use Rattle.service.specs.Serving.{isNone, theRow, keeping, permitted, toldServed, wroteServed}
-use Rattle.service.specs.Serving.{Served}
+use Rattle.service.specs.Write.{written}
+use Rattle.service.specs.Serving.{Served, isNone, theRow, keeping, permitted, toldServed, wroteServed}
 use Rattle.pending.specs.Held.{held}
 use Rattle.pending.specs.Scanning.{Scan}
 use Rattle.nfo_parts.specs.declared.message.Message.{Message}
@@ -29,6 +29,7 @@ use Rattle.nfo_parts.specs.declared.message.Value.{Value}
 use Rattle.nfo_parts.specs.Parts.{messageOf}
 use Rattle.nfo_service.specs.Serve as Nfo
 use Rattle.card.specs.Outcome.{numberOf}
+use Rattle.card.specs.State.{protocolOf}
 use Rattle.card.specs.declared.state.Card.{Card}
 use Rattle.card.specs.declared.outcome.Outcome.{Outcome}
 use Rattle.card.specs.declared.outcome.Outcome.the-variants as Outcomes
@@ -92,9 +93,9 @@ abbrev pub servedNumber : Served → ℕ
 servedNumber s = answerNumber (s .answer)
 
 -- a write, by 3 to 7
-wrote-number : (p : Plant) (s row w : ℕ) → servedNumber (wroteServed p s row w) ≡ firstOf (saying answerNumber (saying Refused (readLine row ∷ writeLines p row w))) 0
+wrote-number : (p : Plant) (q : Numbers) (row w : ℕ) → servedNumber (wroteServed p q row w) ≡ firstOf (saying answerNumber (saying Refused (readLine row ∷ writeLines p row w))) 0
 unfolding wroteServed written permitOf
-wrote-number p s row w = first-by refusalNumber (λ (k : Permit). answerNumber (permitted k)) Permits.Refused (λ r. refl) (readLine row ∷ writeLines p row w) _
+wrote-number p q row w = first-by refusalNumber (λ (k : Permit). answerNumber (permitted k)) Permits.Refused (λ r. refl) (readLine row ∷ writeLines p row w) _
 
 -- line 3 need not be read again, and the stop passes by the lines from 4 on
 again : (r h s : Bool) (a b : ℕ) (ls : List (Line Answer))
@@ -103,57 +104,58 @@ again true h s a b ls = refl
 again false h true a b ls = refl
 again false h false a b ls = refl
 
-module _ (p : Plant) (s adr : ℕ) where
+module _ (p : Plant) (q : Numbers) (adr : ℕ) where
   row-number : (row : Row) (v : Value)
-      → servedNumber (Nfo.rowSelected p s adr row v)
-      ≡ firstOf (saying answerNumber (Nfo.rowLines row v ++ pick (Nfo.stops (p .drive) adr (row .0) (Nfo.theWord v)) [] (saying Refused (writeLines p (row .0) (Nfo.theWord v))))) 0
+      → servedNumber (Nfo.rowSelected p q adr row v)
+      ≡ firstOf (saying answerNumber (Nfo.rowLines row v ++ pick (Nfo.stops p adr (row .0) (Nfo.theWord v)) [] (saying Refused (writeLines p (row .0) (Nfo.theWord v))))) 0
   unfolding Nfo.rowSelected
   row-number row v =
       let w : ℕ = Nfo.theWord v in
-      let t : Bool = Nfo.stops (p .drive) adr (row .0) w in
-      first-by answerNumber servedNumber (keeping p s) (λ a. refl) (Nfo.rowLines row v) (pick t (Nfo.stopServed p row w) (wroteServed p s (row .0) w))
-      ∙ ap (firstOf (saying answerNumber (Nfo.rowLines row v))) (stop t ∙ ap (pick t 0) (wrote-number p s (row .0) w))
+      let t : Bool = Nfo.stops p adr (row .0) w in
+      first-by answerNumber servedNumber (keeping p q) (λ a. refl) (Nfo.rowLines row v) (pick t (Nfo.stopServed p q row w) (wroteServed p q (row .0) w))
+      ∙ ap (firstOf (saying answerNumber (Nfo.rowLines row v))) (stop t ∙ ap (pick t 0) (wrote-number p q (row .0) w))
       ∙ again (readOnly (row .0)) (Nfo.notHex v) t 3 8 (saying Refused (writeLines p (row .0) w))
     where
-      stop : (t : Bool) → servedNumber (pick t (Nfo.stopServed p row (Nfo.theWord v)) (wroteServed p s (row .0) (Nfo.theWord v))) ≡ pick t 0 (servedNumber (wroteServed p s (row .0) (Nfo.theWord v)))
+      stop : (t : Bool) → servedNumber (pick t (Nfo.stopServed p q row (Nfo.theWord v)) (wroteServed p q (row .0) (Nfo.theWord v))) ≡ pick t 0 (servedNumber (wroteServed p q (row .0) (Nfo.theWord v)))
       stop true = refl
       stop false = refl
 
-pub nfo-number : (p : Plant) (s : ℕ) (m : Message) → servedNumber (Nfo.served p s m) ≡ firstOf (saying answerNumber (nfoOrder p m)) 0
+pub nfo-number : (p : Plant) (q : Numbers) (m : Message) → servedNumber (Nfo.served p q m) ≡ firstOf (saying answerNumber (nfoOrder p m)) 0
 unfolding Nfo.served Nfo.enquiryServed Nfo.selectServed toldServed
-nfo-number p s (Enquiry adr q) = first-by answerNumber servedNumber (keeping p s) (λ a. refl) (Nfo.enquiryLines p adr (Nfo.rowNamed q)) (toldServed p s (theRow (Nfo.rowNamed q)))
-nfo-number p s (Select adr q v) =
-    first-by answerNumber servedNumber (keeping p s) (λ a. refl) (Nfo.nameLines p adr (Nfo.rowNamed q)) (Nfo.rowSelected p s adr (theRow (Nfo.rowNamed q)) v)
-    ∙ ap (firstOf (saying answerNumber (Nfo.nameLines p adr (Nfo.rowNamed q)))) (row-number p s adr (theRow (Nfo.rowNamed q)) v)
+nfo-number p q (Enquiry adr e) =
+    first-by answerNumber servedNumber (keeping p q) (λ a. refl) (Nfo.enquiryLines p adr (Nfo.rowNamed e)) (toldServed p q (theRow (Nfo.rowNamed e)))
+nfo-number p q (Select adr e v) =
+    first-by answerNumber servedNumber (keeping p q) (λ a. refl) (Nfo.nameLines p adr (Nfo.rowNamed e)) (Nfo.rowSelected p q adr (theRow (Nfo.rowNamed e)) v)
+    ∙ ap (firstOf (saying answerNumber (Nfo.nameLines p adr (Nfo.rowNamed e)))) (row-number p q adr (theRow (Nfo.rowNamed e)) v)
 
 -- a number of a choice is the choice of the numbers
 of-pick : {B : Type 0} (count : B → ℕ) (t : Bool) (x y : B) → count (pick t x y) ≡ pick t (count x) (count y)
 of-pick count true x y = refl
 of-pick count false x y = refl
 
-module _ (p : Plant) (s : ℕ) where
-  task-number : (row : Row) (q : Request) (u : List ℕ) → servedNumber (Modbus.done p s (Modbus.taskAt row q u)) ≡ firstOf (saying answerNumber (changeLines p row q u)) 0
+module _ (p : Plant) (q : Numbers) where
+  task-number : (row : Row) (r : Request) (u : List ℕ) → servedNumber (Modbus.done p q (Modbus.taskAt row r u)) ≡ firstOf (saying answerNumber (changeLines p row r u)) 0
   unfolding Modbus.done toldServed
-  task-number row (Read f r n) u = refl
-  task-number row (One r w) u = wrote-number p s (row .0) w
-  task-number row (Many r n l) u = wrote-number p s (row .0) (longAt u (l .from))
+  task-number row (Read f first n) u = refl
+  task-number row (One register w) u = wrote-number p q (row .0) w
+  task-number row (Many first n l) u = wrote-number p q (row .0) (longAt u (l .from))
   task-number row (Malformed f) u = refl
   task-number row (Unknown f) u = refl
 
-  request-number : (st a : ℕ) (q : Request) (u : List ℕ)
-      → servedNumber (Modbus.done p s (Modbus.taskOf st a q u)) ≡ firstOf (saying answerNumber (Modbus.unitLines st a q ++ changeLines p (theRow (Modbus.rowAsked q)) q u)) 0
+  request-number : (st a : ℕ) (r : Request) (u : List ℕ)
+      → servedNumber (Modbus.done p q (Modbus.taskOf st a r u)) ≡ firstOf (saying answerNumber (Modbus.unitLines st a r ++ changeLines p (theRow (Modbus.rowAsked r)) r u)) 0
   unfolding Modbus.taskOf Modbus.done
-  request-number st a q u =
-      of-pick (λ t. servedNumber (Modbus.done p s t)) (not (Modbus.reachesUs st a)) _ _
-      ∙ ap (pick (not (Modbus.reachesUs st a)) 1) (of-pick (λ t. servedNumber (Modbus.done p s t)) (Modbus.isUnknown q) _ _
-      ∙ ap (pick (Modbus.isUnknown q) 9) (of-pick (λ t. servedNumber (Modbus.done p s t)) (both (Modbus.toAll a) (Modbus.asksRead q)) _ _
-      ∙ ap (pick (both (Modbus.toAll a) (Modbus.asksRead q)) 1) (of-pick (λ t. servedNumber (Modbus.done p s t)) (Modbus.isMalformed q) _ _
-      ∙ ap (pick (Modbus.isMalformed q) 8) (of-pick (λ t. servedNumber (Modbus.done p s t)) (isNone (Modbus.rowAsked q)) _ _
-      ∙ ap (pick (isNone (Modbus.rowAsked q)) 2) (task-number (theRow (Modbus.rowAsked q)) q u)))))
+  request-number st a r u =
+      of-pick (λ t. servedNumber (Modbus.done p q t)) (not (Modbus.reachesUs st a)) _ _
+      ∙ ap (pick (not (Modbus.reachesUs st a)) 1) (of-pick (λ t. servedNumber (Modbus.done p q t)) (Modbus.isUnknown r) _ _
+      ∙ ap (pick (Modbus.isUnknown r) 9) (of-pick (λ t. servedNumber (Modbus.done p q t)) (both (Modbus.toAll a) (Modbus.asksRead r)) _ _
+      ∙ ap (pick (both (Modbus.toAll a) (Modbus.asksRead r)) 1) (of-pick (λ t. servedNumber (Modbus.done p q t)) (Modbus.isMalformed r) _ _
+      ∙ ap (pick (Modbus.isMalformed r) 8) (of-pick (λ t. servedNumber (Modbus.done p q t)) (isNone (Modbus.rowAsked r)) _ _
+      ∙ ap (pick (isNone (Modbus.rowAsked r)) 2) (task-number (theRow (Modbus.rowAsked r)) r u)))))
 
-pub modbus-number : (p : Plant) (s st a : ℕ) (u : List ℕ) → servedNumber (Modbus.served p s st a u) ≡ firstOf (saying answerNumber (modbusOrder p st a u)) 0
+pub modbus-number : (p : Plant) (q : Numbers) (a : ℕ) (u : List ℕ) → servedNumber (Modbus.served p q a u) ≡ firstOf (saying answerNumber (modbusOrder p (station p) a u)) 0
 unfolding Modbus.served
-modbus-number p s st a u = request-number p s st a (requestOf u) u
+modbus-number p q a u = request-number p q (station p) a (requestOf u) u
 
 -- ---- a call
 -- a line of the protocol's own, and then the message
@@ -178,25 +180,25 @@ module _ (c : Card) (bytes : List ℕ) (room : ℕ) where
   unfolding exchanged
   rtu-number =
       own (frameHolds bytes) (Rtu.taken c bytes) (Rtu.spoilt c (length bytes)) Outcomes.BadFrame (Rtu.exchangeOn c bytes .served)
-      (modbusOrder (c .plant) (c .station) (addressIn bytes) (unitIn bytes)) refl refl
-      (modbus-number (c .plant) (c .port .sioerr) (c .station) (addressIn bytes) (unitIn bytes))
+      (modbusOrder (c .plant) (station (c .plant)) (addressIn bytes) (unitIn bytes)) refl refl
+      (modbus-number (c .plant) (c .port .numbers) (addressIn bytes) (unitIn bytes))
 
   ascii-number : (scan : Scan) → numberIn (byScan asciiStream c scan) ≡ firstOf (saying numberOf (asciiOrder c scan)) 0
   unfolding exchanged waiting
   ascii-number scan =
       let m : List ℕ = bytesIn (held (scan .pending)) in
-      own (scan .taken) _ _ Outcomes.NothingTaken (asciiStream .served c (scan .pending)) (modbusOrder (c .plant) (c .station) (getD m 0 0) (unitAmong m)) refl refl
-      (modbus-number (c .plant) (c .port .sioerr) (c .station) (getD m 0 0) (unitAmong m))
+      own (scan .taken) _ _ Outcomes.NothingTaken (asciiStream .served c (scan .pending)) (modbusOrder (c .plant) (station (c .plant)) (getD m 0 0) (unitAmong m)) refl refl
+      (modbus-number (c .plant) (c .port .numbers) (getD m 0 0) (unitAmong m))
 
   serial-number : (scan : Scan) → numberIn (byScan nfoStream c scan) ≡ firstOf (saying numberOf (serialOrder c scan)) 0
   unfolding waiting
   serial-number scan =
       own (scan .taken) _ _ Outcomes.NothingTaken (nfoStream .served c (scan .pending)) (nfoOrder (c .plant) (messageOf (scan .pending .bytes))) refl refl
-      (nfo-number (c .plant) (c .port .sioerr) (messageOf (scan .pending .bytes)))
+      (nfo-number (c .plant) (c .port .numbers) (messageOf (scan .pending .bytes)))
 
   pub received-number : numberIn (received c bytes room) ≡ firstOf (saying numberOf (callOrder c bytes room)) 0
   unfolding received Rtu.rtuReceived asciiReceived nfoReceived
   received-number =
-      by-protocol (ltb room 19) (eqb (c .port .protocol) 1) (eqb (c .port .protocol) 2) (tooShort c) _ _ _
+      by-protocol (ltb room 19) (eqb (protocolOf c) 1) (eqb (protocolOf c) 2) (tooShort c) _ _ _
       (rtuOrder c bytes) (asciiOrder c (scanOf (asciiStream .feeding) c bytes)) (serialOrder c (scanOf (nfoStream .feeding) c bytes)) refl
       rtu-number (ascii-number (scanOf (asciiStream .feeding) c bytes)) (serial-number (scanOf (nfoStream .feeding) c bytes))

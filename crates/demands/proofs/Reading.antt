@@ -17,12 +17,13 @@ use Rattle.pending.specs.declared.Pending.{Pending}
 use Rattle.pending.specs.Held.{held, Sized}
 use Rattle.pending.specs.Scanning.{Follows}
 use Rattle.pending.proofs.Laws.{held-emptied, sized-emptied}
+use Rattle.card.specs.State.{withPending}
 use Rattle.card.specs.declared.state.Card.{Card}
 use Rattle.turn.specs.Turn.{Received, cardAfter}
 use Rattle.turn.specs.Stream.{Stream}
 use Rattle.demands.specs.Calls.{Protocol, Course, adding, message, servedAll}
 use Rattle.demands.specs.Demand3.{besides}
-use Rattle.demands.proofs.Course.{pendingOn, one, course}
+use Rattle.demands.proofs.Course.{one, course}
 
 -- ---- a byte of the reading
 module _ (F : Format) where
@@ -119,7 +120,7 @@ module _ (P : Protocol) (S : Stream) (L : Lawful (P .format)) (W : Follows (P .f
           → Alike (course S c s) (servedAll P d (messagesOf (feedAll F i h s .taken))) (feedAll F i h s .pending)
 
       by : (t : Bool) → S .feeding .ends (c .port .pending) b ≡ t → Rest
-          → Alike (pick t (adding (one S c q) (course S (one S c q .card) s)) (course S (pendingOn q c) s))
+          → Alike (pick t (adding (one S c q) (course S (one S c q .card) s)) (course S (withPending q c) s))
           (servedAll P d (messagesOf (y .taken ++ feedAll F (y .place) (y .pending) s .taken))) (feedAll F (y .place) (y .pending) s .pending)
       by true t ih =
           let w : F .formed (h ++ b ∷ []) ≡ true = sym formed-here ∙ t in
@@ -135,4 +136,4 @@ module _ (P : Protocol) (S : Stream) (L : Lawful (P .format)) (W : Follows (P .f
           let n = feed-none F i h b w in
           let hq : held q ≡ y .pending =
           W .waits (c .port .pending) b size viable-here t ∙ ap (λ (l : List ℕ). feed F 0 l b .pending) p ∙ sym (n .1) in
-          rw (n .0) (ih (y .place) (y .pending) (pendingOn q c) d hq (W .sized (c .port .pending) b size) (feed-viable F L i h b) e)
+          rw (n .0) (ih (y .place) (y .pending) (withPending q c) d hq (W .sized (c .port .pending) b size) (feed-viable F L i h b) e)

@@ -11,7 +11,8 @@ use Rattle.base.proofs.Lists.{below-drop, below-take}
 use Rattle.base.proofs.Tests.{pick-both}
 use Rattle.table.specs.Table.{lineAt}
 use Rattle.table.specs.declared.labels.Row.{Row}
-use Rattle.drive.specs.declared.plant.Plant.{Plant}
+use Rattle.port.specs.Port.{Numbers}
+use Rattle.drive.specs.Plant.{Plant}
 use Rattle.answers.specs.declared.Answer.{Answer}
 use Rattle.answers.specs.declared.Answer.the-variants as Answers
 use Rattle.answers.specs.declared.Refusal.{Refusal}
@@ -65,12 +66,12 @@ answered-is (Malformed f) (Answers.Written change) m h = absurd h
 answered-is (Unknown f) (Answers.Told row v) m h = absurd h
 answered-is (Unknown f) (Answers.Written change) m h = absurd h
 
-module _ (p : Plant) (sioerr st a : ℕ) (u : List ℕ) where
-  reply-is : ReplyIs (exchanged p sioerr st a u .reply)
+module _ (p : Plant) (q : Numbers) (a : ℕ) (u : List ℕ) where
+  reply-is : ReplyIs (exchanged p q a u .reply)
   unfolding exchanged replied repliedBy
-  reply-is = pick-both ReplyIs (toAll a) (λ _. tt) (λ _. answered-is (requestOf u) (served p sioerr st a u .answer) (made u) (served-fits p sioerr st a u))
+  reply-is = pick-both ReplyIs (toAll a) (λ _. tt) (λ _. answered-is (requestOf u) (served p q a u .answer) (made u) (served-fits p q a u))
 
-  pub answers : (x : Units.Answer) → exchanged p sioerr st a u .reply ≡ Data x → IsAnswer x
+  pub answers : (x : Units.Answer) → exchanged p q a u .reply ≡ Data x → IsAnswer x
   answers x e = subst ReplyIs e reply-is
 
 -- with its numbers in their widths, where the unit came as a message's bytes
@@ -78,6 +79,6 @@ unit-bytes : (m : List ℕ) → Bytes (unitAmong (bytesIn m))
 unfolding unitAmong
 unit-bytes m = below-drop 256 1 _ (below-take 256 (length (bytesIn m) - 1) (bytesIn m) (decoded-below m))
 
-pub widths : (p : Plant) (sioerr st a : ℕ) (m : List ℕ) (x : Units.Answer) → exchanged p sioerr st a (unitAmong (bytesIn m)) .reply ≡ Data x → InWidth x
+pub widths : (p : Plant) (q : Numbers) (a : ℕ) (m : List ℕ) (x : Units.Answer) → exchanged p q a (unitAmong (bytesIn m)) .reply ≡ Data x → InWidth x
 unfolding exchanged
-widths p sioerr st a m x e = subst ReplyIn e (reply-in a (unitAmong (bytesIn m)) _ (unit-bytes m))
+widths p q a m x e = subst ReplyIn e (reply-in a (unitAmong (bytesIn m)) _ (unit-bytes m))

@@ -5,6 +5,7 @@ use Prim.Native.Nat.{ℕ, _≤_}
 use lib.ListN.{drop}
 use Rattle.stream.specs.Format.{Format}
 use Rattle.service.specs.Serving.{Served}
+use Rattle.card.specs.State.{protocolOf}
 use Rattle.card.specs.declared.state.Card.{Card}
 use Rattle.card.specs.declared.outcome.Outcome.{Outcome}
 use Rattle.card.specs.declared.outcome.Outcome.the-variants as Outcomes
@@ -51,11 +52,11 @@ pub record Protocol : Type 0 where
 
 -- the port is of this protocol
 abbrev pub Speaks : Protocol → Card → Type 0
-Speaks P c = c .port .protocol ≡ P .number
+Speaks P c = protocolOf c ≡ P .number
 
 -- one message of it on a card
 abbrev pub message : Protocol → Card → List ℕ → Received
-message P c m = answered c (c .port .pending) 0 (P .served c m) (P .reply c m)
+message P c m = answered (c .port .pending) 0 (P .served c m) (P .reply c m)
 
 -- the messages served one after another
 unfoldable pub servedAll : Protocol → Card → List (List ℕ) → Course

@@ -2,6 +2,7 @@
 use mathlib.Core.List.{List, [], _∷_, _++_}
 use Prim.Native.Nat.{ℕ, zero, suc}
 use lib.ListN.{drop}
+use Rattle.drive.specs.Plant as Plant
 use Rattle.card.specs.declared.state.Card.{Card}
 use Rattle.card.specs.declared.state.Protocol.the-variants.{Nfo, Ascii}
 use Rattle.card.specs.declared.outcome.Outcome.{Outcome}
@@ -39,7 +40,7 @@ saying NothingTaken reply later = later
 
 -- so many calls of `receive`, with a reply buffer of 19 bytes, each on the rest that the one before left
 abbrev pub heard : ℕ → Card → List ℕ → Told
-heard zero c bytes = telling [] (c .plant .drive .flags)
+heard zero c bytes = telling [] (Plant.flags (c .plant))
 heard (suc n) c bytes = let r : Received = received c bytes 19 in saying (r .outcome) (r .reply) (heard n (r .card) (drop (r .used) bytes))
 
 -- the ENQUIRY of case 2, without the EOT that it begins with, and with it; its reply

@@ -9,6 +9,7 @@ use Prim.Native.Nat.{ℕ, _+_, _-_, _%_, _≤_, _<_}
 use lib.ListN.{length, getD}
 use Rattle.stream.specs.Format.{Format}
 use Rattle.stream.specs.Reading.{Yield, Reads}
+use Rattle.drive.specs.Plant.{station}
 use Rattle.answers.specs.declared.Answer.{Answer}
 use Rattle.answers.specs.declared.Answer.the-variants as Answers
 use Rattle.nfo.specs.Message.{formed}
@@ -25,6 +26,7 @@ use Rattle.rtu.specs.Rtu.{addressIn, unitIn, rtuOf, registerData}
 use Rattle.ascii.specs.Ascii.{bytesIn, asciiOf}
 use Rattle.ascii_scan.specs.Parts.{unitAmong}
 use Rattle.modbus_service.specs.declared.Reply.the-variants.{Data}
+use Rattle.card.specs.State.{protocolOf}
 use Rattle.card.specs.declared.state.Card.{Card}
 use Rattle.card.specs.declared.outcome.Outcome.the-variants as Outcomes
 use Rattle.rtu_port.specs.Receive as Rtu
@@ -62,7 +64,7 @@ Read P m = TakenAfter (P .format) m × ServedAlone P m
 
 -- a frame is served by the call that is given it
 abbrev pub FrameRead : List ℕ → Type 0
-FrameRead frame = (c : Card) → c .port .protocol ≡ 1 → (room : ℕ) → 19 ≤ room → received c frame room ≡ Rtu.taken c frame
+FrameRead frame = (c : Card) → protocolOf c ≡ 1 → (room : ℕ) → 19 ≤ room → received c frame room ≡ Rtu.taken c frame
 
 -- the bytes that the master writes for what it asks
 abbrev pub frame : ℕ → Ask → List ℕ → List ℕ
@@ -98,9 +100,9 @@ heardBack m (Answers.Refused refusal) = Refused (adrIn m - 32)
 -- of Modbus: what the unit x answers, from the address that was asked. Our own address is 1 to 247, as MbAdr allows
 pub record Replies : Type 0 where
   pub nfo : (m : List ℕ) → formed m ≡ true → (answer : Answer) → (replied (messageOf m) answer ≡ []) ⊎ (readOf (replied (messageOf m) answer) ≡ heardBack (messageOf m) answer)
-  pub rtu : (c : Card) → Within 1 247 (c .station) → (frame : List ℕ) (x : Units.Answer) → Rtu.exchangeOn c frame .reply ≡ Data x
+  pub rtu : (c : Card) → Within 1 247 (station (c .plant)) → (frame : List ℕ) (x : Units.Answer) → Rtu.exchangeOn c frame .reply ≡ Data x
       → rtuHeard (rtuOf (addressIn frame) (unitOf x)) ≡ heard (replyTo (addressIn frame) x) (wordsTold x)
-  pub ascii : (c : Card) → Within 1 247 (c .station) → (m : List ℕ) (x : Units.Answer) → Ascii.exchangeOn c (bytesIn m) .reply ≡ Data x
+  pub ascii : (c : Card) → Within 1 247 (station (c .plant)) → (m : List ℕ) (x : Units.Answer) → Ascii.exchangeOn c (bytesIn m) .reply ≡ Data x
       → asciiHeard (asciiOf (getD (bytesIn m) 0 0) (unitOf x)) ≡ heard (replyTo (getD (bytesIn m) 0 0) x) (wordsTold x)
 
 abbrev pub Demand2 : Type 0

@@ -12,7 +12,7 @@ use Rattle.nfo.specs.Message.{nfo}
 use Rattle.nfo_parts.specs.Parts.{messageOf}
 use Rattle.nfo_service.specs.Reply.{replied}
 use Rattle.card.specs.declared.state.Card.{Card}
-use Rattle.card.specs.State.{withPort, withPending}
+use Rattle.card.specs.State.{withPending}
 use Rattle.nfo_port.specs.Receive.{servedBy}
 use Rattle.ascii.specs.Ascii.{bytesIn, ascii}
 use Rattle.ascii_port.specs.Receive.{exchangeOn, replyOn}
@@ -33,7 +33,7 @@ NothingPending c = (held (c .port .pending) ≡ []) × Sized (c .port .pending)
 
 -- the card but for the bytes pending
 abbrev pub besides : Card → Card
-besides c = withPort (withPending empty (c .port)) c
+besides c = withPending empty c
 
 -- what came of the stream is what comes of serving the messages of the reading y one after another; and what is pending is what y leaves pending
 pub record Same (P : Protocol) (c : Card) (k : Course) (y : Yield) : Type 0 where

@@ -7,8 +7,8 @@ use mathlib.Core.List.{List}
 use Prim.Native.Nat.{ℕ}
 use lib.ListN.{getD}
 use Rattle.table.specs.Names.{MbAdr}
-use Rattle.drive.specs.declared.plant.Drive.{Drive}
-use Rattle.drive.specs.declared.plant.Plant.{Plant}
+use Rattle.drive.specs.Plant.{Plant}
+use Rattle.drive.specs.Plant as Plants
 use Rattle.drive.specs.declared.events.Measured.{Measured}
 use Rattle.card.specs.State.{started, restarted}
 use Rattle.card.specs.Events.{faultRaised, causeEnded, din1Set, measuredSet, parityTold, ticked}
@@ -17,19 +17,21 @@ use Rattle.card.specs.declared.state.Protocol as Protocols
 use Rattle.receive.specs.Receive.{received}
 use Rattle.master_reply.specs.Told.{Within}
 
--- "MbAdr | 1..247", "MODE | 1, 2, 3", "SCMD | 0, 129, 257"
+-- "SCMD | 0, 129, 257"
 abbrev pub Command : ℕ → Type 0
 Command w = (w ≡ 0) ⊎ ((w ≡ 129) ⊎ (w ≡ 257))
 
-abbrev pub Commanded : Drive → Type 0
-Commanded d = Within 1 3 (d .mode) × Command (d .scmd)
+pub record Allowed (p : Plant) : Type 0 where
+  -- "MbAdr | 1..247"
+  pub address : Within 1 247 (getD p MbAdr 0)
+  -- "MODE | 1, 2, 3"
+  pub mode : Within 1 3 (Plants.mode p)
+  pub scmd : Command (Plants.scmd p)
+  -- "Addresses 1 to 247; ours is what MbAdr held at the last start or restart"
+  pub station : Within 1 247 (Plants.station p)
 
-abbrev pub Allowed : Plant → Type 0
-Allowed p = Within 1 247 (getD (p .settings .words) MbAdr 0) × Commanded (p .drive)
-
--- "Addresses 1 to 247; ours is what MbAdr held at the last start or restart"
 abbrev pub Addressed : Card → Type 0
-Addressed c = Allowed (c .plant) × Within 1 247 (c .station)
+Addressed c = Allowed (c .plant)
 
 pub record Kept : Type 0 where
   pub start : (protocol : Protocols.Protocol) → Addressed (started protocol)

@@ -12,7 +12,7 @@ use Rattle.base.specs.Order.{Line, when, saying, numbers}
 use Rattle.table.specs.declared.labels.Row.{Row}
 use Rattle.table.specs.declared.labels.Register.{Register}
 use Rattle.table.specs.declared.labels.Found.{Found}
-use Rattle.drive.specs.declared.plant.Plant.{Plant}
+use Rattle.drive.specs.Plant.{Plant, station}
 use Rattle.answers.specs.declared.Answer.{Answer}
 use Rattle.answers.specs.declared.Answer.the-variants.{Refused}
 use Rattle.answers.specs.Answer.{answerNumber}
@@ -25,6 +25,7 @@ use Rattle.nfo_parts.specs.declared.message.Message.{Message}
 use Rattle.nfo_parts.specs.declared.message.Message.the-variants.{Enquiry, Select}
 use Rattle.nfo_parts.specs.declared.message.Value.{Value}
 use Rattle.nfo_service.specs.Serve as Nfo
+use Rattle.card.specs.State.{protocolOf}
 use Rattle.card.specs.declared.state.Card.{Card}
 use Rattle.card.specs.declared.outcome.Outcome.{Outcome}
 use Rattle.card.specs.declared.outcome.Outcome.the-variants.{Served, ShortBuffer, BadFrame, NothingTaken}
@@ -51,9 +52,9 @@ abbrev pub selectOrder : Plant → ℕ → Found → Value → List (Line Answer
 selectOrder p adr found value =
     Nfo.nameLines p adr found
     ++ (Nfo.rowLines (theRow found) value
-    ++ pick (Nfo.stops (p .drive) adr (theRow found .0) (Nfo.theWord value)) [] (saying Refused (writeLines p (theRow found .0) (Nfo.theWord value))))
+    ++ pick (Nfo.stops p adr (theRow found .0) (Nfo.theWord value)) [] (saying Refused (writeLines p (theRow found .0) (Nfo.theWord value))))
 
-pub select-order : (p : Plant) (adr : ℕ) (found : Found) (value : Value) → Nfo.stops (p .drive) adr (theRow found .0) (Nfo.theWord value) ≡ false
+pub select-order : (p : Plant) (adr : ℕ) (found : Found) (value : Value) → Nfo.stops p adr (theRow found .0) (Nfo.theWord value) ≡ false
     → numbers answerNumber (selectOrder p adr found value) ≡ 1 ∷ 2 ∷ 3 ∷ 8 ∷ 4 ∷ 5 ∷ 6 ∷ 7 ∷ []
 select-order p adr found value other = rw other
 
@@ -94,15 +95,15 @@ serialOrder c scan = streamOrder scan (nfoOrder (c .plant) (messageOf (scan .pen
 abbrev pub asciiOrder : Card → Scan → List (Line Outcome)
 asciiOrder c scan =
     let message : List ℕ = bytesIn (held (scan .pending)) in
-    streamOrder scan (modbusOrder (c .plant) (c .station) (getD message 0 0) (unitAmong message))
+    streamOrder scan (modbusOrder (c .plant) (station (c .plant)) (getD message 0 0) (unitAmong message))
 
 -- "Modbus 11": "RTU length or CRC wrong"
 abbrev pub rtuOrder : Card → List ℕ → List (Line Outcome)
-rtuOrder c frame = when (not (frameHolds frame)) BadFrame ∷ saying Served (modbusOrder (c .plant) (c .station) (addressIn frame) (unitIn frame))
+rtuOrder c frame = when (not (frameHolds frame)) BadFrame ∷ saying Served (modbusOrder (c .plant) (station (c .plant)) (addressIn frame) (unitIn frame))
 
 -- "Order: 10 first, in every reply call"; "A reply buffer under 19 bytes is 10"
 abbrev pub callOrder : Card → List ℕ → ℕ → List (Line Outcome)
 callOrder c bytes room =
     when (ltb room 19) ShortBuffer
-    ∷ pick (eqb (c .port .protocol) 1) (rtuOrder c bytes)
-    (pick (eqb (c .port .protocol) 2) (asciiOrder c (scanOf (asciiStream .feeding) c bytes)) (serialOrder c (scanOf (nfoStream .feeding) c bytes)))
+    ∷ pick (eqb (protocolOf c) 1) (rtuOrder c bytes)
+    (pick (eqb (protocolOf c) 2) (asciiOrder c (scanOf (asciiStream .feeding) c bytes)) (serialOrder c (scanOf (nfoStream .feeding) c bytes)))

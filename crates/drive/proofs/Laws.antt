@@ -12,32 +12,31 @@ use borrow.Author.Tests.{ne-eqb, le-leb, lt-leb, leb-true}
 use Rattle.base.specs.Choice.{both, either}
 use Rattle.base.proofs.Tests.{both-out, either-out, either-right}
 use Rattle.drive.specs.declared.events.Measured.{Measured}
-use Rattle.drive.specs.declared.plant.Drive.{Drive}
-use Rattle.drive.specs.Plant.{withCauses}
+use Rattle.drive.specs.Plant.{Plant, mode, scmd, din1, causes, flags, withScmd, withCauses}
 use Rattle.drive.specs.Flags.{only}
-use Rattle.drive.specs.Faults.{active, flagStands, runs, flagRaised}
-use Rattle.drive.specs.Events.{isFault, raised, ended, withMeasured}
+use Rattle.drive.specs.Faults.{active, flagStands, runs, flagRaised, without14, stopped}
+use Rattle.drive.specs.Events.{isFault, raised, ended, withActive, withMeasured}
 
 -- ---- running
 twice : (t : Bool) → t ≡ either (not (not t)) false
 twice true = refl
 twice false = refl
 
-pub runs-auto : (d : Drive) → d .mode ≡ 2 → (d .din1 ≡ 0 → ⊥) → eqb (d .flags) 0 ≡ runs d
+pub runs-auto : (p : Plant) → mode p ≡ 2 → (din1 p ≡ 0 → ⊥) → eqb (flags p) 0 ≡ runs p
 unfolding runs active flagStands
-runs-auto d m a = simp (m, ne-eqb _ _ a) (twice (eqb (d .flags) 0))
+runs-auto p m a = simp (m, ne-eqb _ _ a) (twice (eqb (flags p) 0))
 
-pub runs-inactive : (d : Drive) → d .mode ≡ 2 → d .din1 ≡ 0 → false ≡ runs d
+pub runs-inactive : (p : Plant) → mode p ≡ 2 → din1 p ≡ 0 → false ≡ runs p
 unfolding runs active
-runs-inactive d m a = simp (m, a)
+runs-inactive p m a = simp (m, a)
 
-pub runs-bus : (d : Drive) → d .mode ≡ 3 → not (eqb (d .scmd) 0) ≡ runs d
+pub runs-bus : (p : Plant) → mode p ≡ 3 → not (eqb (scmd p) 0) ≡ runs p
 unfolding runs
-runs-bus d m = simp m
+runs-bus p m = simp m
 
-pub runs-not : (d : Drive) → (d .mode ≡ 2 → ⊥) → (d .mode ≡ 3 → ⊥) → false ≡ runs d
+pub runs-not : (p : Plant) → (mode p ≡ 2 → ⊥) → (mode p ≡ 3 → ⊥) → false ≡ runs p
 unfolding runs
-runs-not d a b = simp (ne-eqb _ _ a, ne-eqb _ _ b)
+runs-not p a b = simp (ne-eqb _ _ a, ne-eqb _ _ b)
 
 -- ---- faults
 -- 1 << n
@@ -55,23 +54,23 @@ fault-small n e =
 pub fault-shift : (n : ℕ) (b : Bool) → b ≡ isFault n → b ≡ true → n < 32
 fault-shift n b h e = fault-small n (sym h ∙ e)
 
-pub raised-known : (d : Drive) (n : ℕ) (b : Bool) → b ≡ isFault n → b ≡ true
-    → record { drive = withCauses (bitOr (d .causes) ((1 * 2 ^ n) % 4294967296)) (flagRaised ((1 * 2 ^ n) % 4294967296) d); known = true } ≡ raised n d
+pub raised-known : (p q : Plant) (n : ℕ) (b : Bool) → b ≡ isFault n → b ≡ true → q ≡ flagRaised ((1 * 2 ^ n) % 4294967296) p
+    → record { plant = withCauses (bitOr (causes p) ((1 * 2 ^ n) % 4294967296)) q; known = true } ≡ raised n p
 unfolding raised
-raised-known d n b h e = simp (bit-is n (fault-shift n b h e), sym h ∙ e)
+raised-known p q n b h e r = simp (r, bit-is n (fault-shift n b h e), sym h ∙ e)
 
-pub raised-unknown : (d : Drive) (n : ℕ) (b : Bool) → b ≡ isFault n → b ≡ false → record { drive = d; known = false } ≡ raised n d
+pub raised-unknown : (p : Plant) (n : ℕ) (b : Bool) → b ≡ isFault n → b ≡ false → record { plant = p; known = false } ≡ raised n p
 unfolding raised
-raised-unknown d n b h e = simp (sym h ∙ e)
+raised-unknown p n b h e = simp (sym h ∙ e)
 
-pub ended-known : (d : Drive) (n : ℕ) (b : Bool) → b ≡ isFault n → b ≡ true
-    → record { drive = withCauses (bitAnd (d .causes) (4294967295 - (1 * 2 ^ n) % 4294967296)) d; known = true } ≡ ended n d
+pub ended-known : (p : Plant) (n : ℕ) (b : Bool) → b ≡ isFault n → b ≡ true
+    → record { plant = withCauses (bitAnd (causes p) (4294967295 - (1 * 2 ^ n) % 4294967296)) p; known = true } ≡ ended n p
 unfolding ended
-ended-known d n b h e = simp (bit-is n (fault-shift n b h e), sym h ∙ e)
+ended-known p n b h e = simp (bit-is n (fault-shift n b h e), sym h ∙ e)
 
-pub ended-unknown : (d : Drive) (n : ℕ) (b : Bool) → b ≡ isFault n → b ≡ false → record { drive = d; known = false } ≡ ended n d
+pub ended-unknown : (p : Plant) (n : ℕ) (b : Bool) → b ≡ isFault n → b ≡ false → record { plant = p; known = false } ≡ ended n p
 unfolding ended
-ended-unknown d n b h e = simp (sym h ∙ e)
+ended-unknown p n b h e = simp (sym h ∙ e)
 
 pub fault-low : (n : ℕ) → 1 ≤ n → n < 14 → true ≡ isFault n
 unfolding isFault
@@ -93,6 +92,15 @@ pub fault-past : (n : ℕ) → 24 ≤ n → false ≡ isFault n
 unfolding isFault
 fault-past n a = simp (le-leb 1 n (omega arith), lt-leb n 13 (omega arith), le-leb 16 n (omega arith), lt-leb n 23 (omega arith))
 
+-- ---- the broadcast stop: flag 14 is cleared, and then SCMD is 0
+pub stopped-then : (p q : Plant) → q ≡ without14 p → withScmd 0 q ≡ stopped p
+unfolding stopped
+stopped-then p q e = ap (withScmd 0) e
+
+-- ---- the two cases of DIN1
+pub din1-at : (p r : Plant) (active t : Bool) → active ≡ t → r ≡ withActive t p → r ≡ withActive active p
+din1-at p r active t h q = q ∙ ap (λ (a : Bool). withActive a p) (sym h)
+
 -- ---- an arm of a `match` on what is measured
-pub measured-at : (d r : Drive) (measured k : Measured) → measured ≡ k → r ≡ withMeasured k d → r ≡ withMeasured measured d
-measured-at d r measured k h q = q ∙ ap (λ (m : Measured). withMeasured m d) (sym h)
+pub measured-at : (p r : Plant) (measured k : Measured) → measured ≡ k → r ≡ withMeasured k p → r ≡ withMeasured measured p
+measured-at p r measured k h q = q ∙ ap (λ (m : Measured). withMeasured m p) (sym h)

@@ -4,54 +4,48 @@ use mathlib.Core.Bool.{true}
 use mathlib.Core.List.{List, [], _∷_, map}
 use Prim.Native.Nat.{ℕ}
 use Rattle.table.specs.Table.{rows, startWords}
-use Rattle.drive.specs.declared.plant.Drive.{Drive}
-use Rattle.drive.specs.declared.plant.Plant.{Plant}
-use Rattle.drive.specs.Plant.{withMode, withScmd, withDrive, started, restarted}
+use Rattle.drive.specs.Plant.{Plant, scmd, withMode, withScmd, started, restarted}
 use Rattle.drive.specs.Flags.{flagged, lowestFrom, lowestOf}
 use Rattle.drive.specs.Faults.{active, flagStands, runs, statusOf, flagRaised, without14, stopped}
 use Rattle.drive.specs.Events.{isFault, raised, ended, portFault, withActive}
 
--- drives: at MODE 2 and 3, standing and running; and running at MODE 3 until fault 5 came, which then ended, or until the port's master was silent
-abbrev pub auto : Drive
-auto = withMode 2 (started .drive)
+-- plants: at MODE 2 and 3, standing and running; and running at MODE 3 until fault 5 came, which then ended, or until the port's master was silent
+abbrev pub auto : Plant
+auto = withMode 2 started
 
-abbrev pub bus : Drive
-bus = withMode 3 (withActive true (started .drive))
+abbrev pub bus : Plant
+bus = withMode 3 (withActive true started)
 
-abbrev pub bus-runs : Drive
+abbrev pub bus-runs : Plant
 bus-runs = withScmd 129 bus
 
-abbrev pub faulty : Drive
-faulty = raised 5 bus-runs .drive
+abbrev pub faulty : Plant
+faulty = raised 5 bus-runs .plant
 
-abbrev pub over : Drive
-over = ended 5 faulty .drive
+abbrev pub over : Plant
+over = ended 5 faulty .plant
 
-abbrev pub silent : Drive
+abbrev pub silent : Plant
 silent = portFault bus-runs
-
--- the settings of start, with this drive
-abbrev pub plantWith : Drive → Plant
-plantWith d = withDrive d started
 
 abbrev pub cases : List (ℕ × ℕ)
 cases =
     -- Inv St: "24 at MODE 1, 33/34 at MODE 2 and 37/38 at MODE 3, standing/running"
-    (statusOf (started .drive), 24)
+    (statusOf started, 24)
     ∷ (statusOf auto, 33)
     ∷ (statusOf (withActive true auto), 34)
     ∷ (statusOf bus, 37)
     ∷ (statusOf bus-runs, 38)
     -- fault 5: it stops the drive, and is told after its cause has ended
     ∷ (statusOf faulty, 5)
-    ∷ (faulty .scmd, 0)
+    ∷ (scmd faulty, 0)
     ∷ (statusOf over, 5)
     -- 14, and the broadcast stop
     ∷ (statusOf silent, 14)
     ∷ (statusOf (stopped silent), 37)
     -- a restart: the flags of the standing causes, MODE 1
-    ∷ (statusOf (restarted (plantWith faulty) .drive), 5)
-    ∷ (statusOf (restarted (plantWith over) .drive), 24)
+    ∷ (statusOf (restarted faulty), 5)
+    ∷ (statusOf (restarted over), 24)
     ∷ []
 
 pub cases-hold : map (λ (c : ℕ × ℕ). c .0) cases ≡ map (λ (c : ℕ × ℕ). c .1) cases

@@ -3,12 +3,12 @@ use mathlib.Core.Bool.{Bool, true, false}
 use Prim.Native.Nat.{ℕ}
 use lib.Dec.{eqb, leb}
 use lib.Bits.{bitOr, bitAnd}
+use lib.ListN.{set}
 use Rattle.base.specs.Choice.{pick, both, either}
-use Rattle.drive.specs.declared.plant.Drive.{Drive}
-use Rattle.drive.specs.declared.events.Event.{Event}
 use Rattle.drive.specs.declared.events.Measured.{Measured}
 use Rattle.drive.specs.declared.events.Measured.the-variants.{Frq, Rms, Optime}
-use Rattle.drive.specs.Plant.{withScmd, withDin1, withCauses, withFrq, withRms, withOptime}
+use Rattle.table.specs.Names.{FrqAct, I-rms, OpTime}
+use Rattle.drive.specs.Plant.{Plant, mode, causes, withScmd, withDin1, withCauses}
 use Rattle.drive.specs.Flags.{only, allBut}
 use Rattle.drive.specs.Faults.{flagRaised}
 
@@ -16,29 +16,34 @@ use Rattle.drive.specs.Faults.{flagRaised}
 unfoldable pub isFault : ℕ → Bool
 isFault n = either (both (leb 1 n) (leb n 13)) (both (leb 16 n) (leb n 23))
 
+-- the plant after an event that names a fault, and whether there is a fault of that number
+pub record Event : Type 0 where
+  pub plant : Plant
+  pub known : Bool
+
 -- an event that names fault n; "12: host event number not allowed" changes nothing
-abbrev pub event : ℕ → Drive → Drive → Event
-event n after before = pick (isFault n) (record { drive = after; known = true }) (record { drive = before; known = false })
+abbrev pub event : ℕ → Plant → Plant → Event
+event n after before = pick (isFault n) (record { plant = after; known = true }) (record { plant = before; known = false })
 
 -- "The host raises one (both set)": the cause and the flag
-unfoldable pub raised : ℕ → Drive → Event
-raised n d = event n (withCauses (bitOr (d .causes) (only n)) (flagRaised (only n) d)) d
+unfoldable pub raised : ℕ → Plant → Event
+raised n p = event n (withCauses (bitOr (causes p) (only n)) (flagRaised (only n) p)) p
 
 -- "or ends a cause (the flag stays)"
-unfoldable pub ended : ℕ → Drive → Event
-ended n d = event n (withCauses (bitAnd (d .causes) (allBut n)) d) d
+unfoldable pub ended : ℕ → Plant → Event
+ended n p = event n (withCauses (bitAnd (causes p) (allBut n)) p) p
 
 -- "bit 0 time-out, bit 1 parity fault .. Either one at MODE 3 also raises flag 14"
-unfoldable pub portFault : Drive → Drive
-portFault d = pick (eqb (d .mode) 3) (flagRaised (only 14) d) d
+unfoldable pub portFault : Plant → Plant
+portFault p = pick (eqb (mode p) 3) (flagRaised (only 14) p) p
 
 -- "SCMD becomes 0 when DIN1 goes inactive"
-unfoldable pub withActive : Bool → Drive → Drive
-withActive true d = withDin1 1 d
-withActive false d = withScmd 0 (withDin1 0 d)
+unfoldable pub withActive : Bool → Plant → Plant
+withActive true p = withDin1 1 p
+withActive false p = withScmd 0 (withDin1 0 p)
 
 -- "The host sets FrqAct, I-rms and OpTime freely in their widths"
-unfoldable pub withMeasured : Measured → Drive → Drive
-withMeasured (Frq word) d = withFrq word d
-withMeasured (Rms word) d = withRms word d
-withMeasured (Optime word) d = withOptime word d
+unfoldable pub withMeasured : Measured → Plant → Plant
+withMeasured (Frq word) p = set p FrqAct word
+withMeasured (Rms word) p = set p I-rms word
+withMeasured (Optime word) p = set p OpTime word

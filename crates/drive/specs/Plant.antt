@@ -1,51 +1,76 @@
--- The state, at start and after a restart. Assumes nothing.
-use mathlib.Core.List.{List}
-use Prim.Native.Nat.{ℕ}
+-- The plant: one list of words. Each row's word stands at its line in the table, under the row's name; behind the rows stand the numbers that are no rows. The
+-- lines of Inv St, which is worked out, and of SioErr, which is the port's, hold nothing. Assumes nothing.
+use mathlib.Core.Path.{_≡_}
+use mathlib.Core.List.{List, [], _∷_, _++_}
+use Prim.Native.Nat.{ℕ, _+_}
+use lib.ListN.{length, getD, set}
+use Rattle.table.specs.Names.{MbAdr, MODE, SCMD, rowCount}
 use Rattle.table.specs.Table.{startWords}
-use Rattle.drive.specs.declared.plant.Settings.{Settings}
-use Rattle.drive.specs.declared.plant.Drive.{Drive}
-use Rattle.drive.specs.declared.plant.Plant.{Plant}
 
--- ---- the drive with one number changed, and all else as it was
-abbrev pub withMode : ℕ → Drive → Drive
-withMode x d = record { mode = x; scmd = d .scmd; din1 = d .din1; causes = d .causes; flags = d .flags; frq = d .frq; rms = d .rms; optime = d .optime }
+abbrev pub Plant : Type 0
+Plant = List ℕ
 
-abbrev pub withScmd : ℕ → Drive → Drive
-withScmd x d = record { mode = d .mode; scmd = x; din1 = d .din1; causes = d .causes; flags = d .flags; frq = d .frq; rms = d .rms; optime = d .optime }
+-- ---- the names of the numbers that are no rows
+abbrev pub DIN1 : ℕ
+DIN1 = rowCount
 
-abbrev pub withDin1 : ℕ → Drive → Drive
-withDin1 x d = record { mode = d .mode; scmd = d .scmd; din1 = x; causes = d .causes; flags = d .flags; frq = d .frq; rms = d .rms; optime = d .optime }
+abbrev pub Causes : ℕ
+Causes = rowCount + 1
 
-abbrev pub withCauses : ℕ → Drive → Drive
-withCauses x d = record { mode = d .mode; scmd = d .scmd; din1 = d .din1; causes = x; flags = d .flags; frq = d .frq; rms = d .rms; optime = d .optime }
+abbrev pub Flags : ℕ
+Flags = rowCount + 2
 
-abbrev pub withFlags : ℕ → Drive → Drive
-withFlags x d = record { mode = d .mode; scmd = d .scmd; din1 = d .din1; causes = d .causes; flags = x; frq = d .frq; rms = d .rms; optime = d .optime }
+-- our own address: "what MbAdr held at the last start or restart"
+abbrev pub Station : ℕ
+Station = rowCount + 3
 
-abbrev pub withFrq : ℕ → Drive → Drive
-withFrq x d = record { mode = d .mode; scmd = d .scmd; din1 = d .din1; causes = d .causes; flags = d .flags; frq = x; rms = d .rms; optime = d .optime }
+-- the array's length, which its type tells
+abbrev pub Sized : Plant → Type 0
+Sized p = length p ≡ rowCount + 4
 
-abbrev pub withRms : ℕ → Drive → Drive
-withRms x d = record { mode = d .mode; scmd = d .scmd; din1 = d .din1; causes = d .causes; flags = d .flags; frq = d .frq; rms = x; optime = d .optime }
+-- ---- a number of the plant
+abbrev pub mode : Plant → ℕ
+mode p = getD p MODE 0
 
-abbrev pub withOptime : ℕ → Drive → Drive
-withOptime x d = record { mode = d .mode; scmd = d .scmd; din1 = d .din1; causes = d .causes; flags = d .flags; frq = d .frq; rms = d .rms; optime = x }
+abbrev pub scmd : Plant → ℕ
+scmd p = getD p SCMD 0
 
--- ---- the plant with one part changed
-abbrev pub withSettings : Settings → Plant → Plant
-withSettings x p = record { settings = x; drive = p .drive }
+abbrev pub din1 : Plant → ℕ
+din1 p = getD p DIN1 0
 
-abbrev pub withDrive : Drive → Plant → Plant
-withDrive x p = record { settings = p .settings; drive = x }
+abbrev pub causes : Plant → ℕ
+causes p = getD p Causes 0
 
--- the plant of settings that are lent and of a drive
-abbrev pub plantOf : List ℕ → Drive → Plant
-plantOf words d = record { settings = record { words = words }; drive = d }
+abbrev pub flags : Plant → ℕ
+flags p = getD p Flags 0
+
+abbrev pub station : Plant → ℕ
+station p = getD p Station 0
+
+-- ---- the plant with one number changed, and all else as it was
+abbrev pub withMode : ℕ → Plant → Plant
+withMode x p = set p MODE x
+
+abbrev pub withScmd : ℕ → Plant → Plant
+withScmd x p = set p SCMD x
+
+abbrev pub withDin1 : ℕ → Plant → Plant
+withDin1 x p = set p DIN1 x
+
+abbrev pub withCauses : ℕ → Plant → Plant
+withCauses x p = set p Causes x
+
+abbrev pub withFlags : ℕ → Plant → Plant
+withFlags x p = set p Flags x
+
+abbrev pub withStation : ℕ → Plant → Plant
+withStation x p = set p Station x
 
 -- ---- the column Start; "At start DIN1 is inactive and no cause stands"
 unfoldable pub started : Plant
-started = plantOf startWords (record { mode = 1; scmd = 0; din1 = 0; causes = 0; flags = 0; frq = 0; rms = 0; optime = 0 })
+started = startWords ++ (0 ∷ 0 ∷ 0 ∷ getD startWords MbAdr 0 ∷ [])
 
--- "Restart keeps rows 301 to 322, DIN1, causes and measured numbers; flags become the standing causes; MODE 1, SCMD .. 0"
+-- "Restart keeps rows 301 to 322, DIN1, causes and measured numbers; flags become the standing causes; MODE 1, SCMD .. 0"; "ours is what MbAdr held at
+-- the last start or restart"
 unfoldable pub restarted : Plant → Plant
-restarted p = withDrive (withMode 1 (withScmd 0 (withFlags (p .drive .causes) (p .drive)))) p
+restarted p = withMode 1 (withScmd 0 (withFlags (causes p) (withStation (getD p MbAdr 0) p)))

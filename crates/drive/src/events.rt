@@ -1,14 +1,13 @@
-// Host events: what each makes of the drive.
+// Host events: what each makes of the plant.
 use crate::faults::FLAG_14;
-use crate::plant::Drive;
+use crate::plant::CAUSES;
+use crate::plant::DIN1;
+use crate::plant::FLAGS;
+use crate::plant::Plant;
+use table::names::*;
 ghost use mathlib.Core.Path.{_≡_};
+ghost use Rattle.drive.specs.Faults.{flagRaised};
 ghost use Rattle.drive.specs.Events.{isFault, raised, ended, portFault, withActive, withMeasured};
-
-// The drive after an event that names a fault, and whether there is a fault of that number. Where there is none, nothing changes.
-pub struct Event {
-    pub drive: Drive,
-    pub known: bool,
-}
 
 // A number that the host measures: FrqAct in 16 bits, I-rms and OpTime in 32.
 pub enum Measured {
@@ -28,87 +27,74 @@ fn is_fault(n: u32) -> bool
     }
 }
 
-impl Drive {
-    // Raises fault n: its cause stands, its flag is raised, and the drive stops.
-    pub fn raise_fault(mut self, n: u32) -> Event
-        ensures { λ r. ⌜ r ≡ raised n self ⌝ }
-    {
-        if is_fault(n) {
-            let mask = 1u32 << n;
-            self.causes |= mask;
-            self.flags |= mask;
-            self.scmd = 0;
-            return Event {
-                drive: self,
-                known: true,
-            };
-        }
-        Event {
-            drive: self,
-            known: false,
-        }
-    }
+// Raises the flags of a mask, which stops the drive.
+fn raise_flags(plant: &mut Plant, mask: u32)
+    ensures { λ _. ⌜ now (plant .exit) ≡ flagRaised mask (now (plant .entry)) ⌝ }
+{
+    plant[FLAGS] = plant[FLAGS] | mask;
+    plant[SCMD] = 0;
+}
 
-    // Ends the cause of fault n. Its flag stays.
-    pub fn end_cause(mut self, n: u32) -> Event
-        ensures { λ r. ⌜ r ≡ ended n self ⌝ }
-    {
-        if is_fault(n) {
-            let mask = 1u32 << n;
-            self.causes &= !mask;
-            return Event {
-                drive: self,
-                known: true,
-            };
-        }
-        Event {
-            drive: self,
-            known: false,
-        }
+// Raises fault n: its cause stands, its flag is raised, and the drive stops. Tells whether there is a fault of that number; where there is none, nothing changes.
+pub fn raise_fault(plant: &mut Plant, n: u32) -> bool
+    ensures { λ r. ⌜ record { plant = now (plant .exit); known = r } ≡ raised n (now (plant .entry)) ⌝ }
+{
+    if is_fault(n) {
+        let mask = 1u32 << n;
+        let causes = plant[CAUSES] | mask;
+        raise_flags(plant, mask);
+        plant[CAUSES] = causes;
+        return true;
     }
+    false
+}
 
-    // What a time-out or a parity fault of a port does to the drive: at MODE 3 it raises flag 14.
-    pub fn port_fault(mut self) -> Drive
-        ensures { λ r. ⌜ r ≡ portFault self ⌝ }
-    {
-        if self.mode == 3 {
-            self.flags |= FLAG_14;
-            self.scmd = 0;
-            return self;
-        }
-        self
+// Ends the cause of fault n. Its flag stays. Tells whether there is a fault of that number.
+pub fn end_cause(plant: &mut Plant, n: u32) -> bool
+    ensures { λ r. ⌜ record { plant = now (plant .exit); known = r } ≡ ended n (now (plant .entry)) ⌝ }
+{
+    if is_fault(n) {
+        let mask = 1u32 << n;
+        plant[CAUSES] = plant[CAUSES] & !mask;
+        return true;
     }
+    false
+}
 
-    // DIN1 becomes active, or inactive, which stops the drive.
-    pub fn set_din1(mut self, active: bool) -> Drive
-        ensures { λ r. ⌜ r ≡ withActive active self ⌝ }
-    {
-        if active {
-            self.din1 = 1;
-            return self;
-        }
-        self.din1 = 0;
-        self.scmd = 0;
-        self
+// What a time-out or a parity fault of a port does to the plant: at MODE 3 it raises flag 14.
+pub fn port_fault(plant: &mut Plant)
+    ensures { λ _. ⌜ now (plant .exit) ≡ portFault (now (plant .entry)) ⌝ }
+{
+    if plant[MODE] == 3 {
+        raise_flags(plant, FLAG_14);
     }
+}
 
-    // A number is measured anew.
-    pub fn measure(mut self, measured: Measured) -> Drive
-        ensures { λ r. ⌜ r ≡ withMeasured measured self ⌝ }
-    {
-        match measured {
-            Measured::Frq(word) => {
-                self.frq = word as u32;
-                self
-            }
-            Measured::Rms(word) => {
-                self.rms = word;
-                self
-            }
-            Measured::Optime(word) => {
-                self.optime = word;
-                self
-            }
+// DIN1 becomes active, or inactive, which stops the drive.
+pub fn set_din1(plant: &mut Plant, active: bool)
+    ensures { λ _. ⌜ now (plant .exit) ≡ withActive active (now (plant .entry)) ⌝ }
+{
+    if active {
+        plant[DIN1] = 1;
+        return;
+    }
+    plant[DIN1] = 0;
+    plant[SCMD] = 0;
+}
+
+// A number is measured anew.
+pub fn measure(plant: &mut Plant, measured: Measured)
+    ensures { λ _. ⌜ now (plant .exit) ≡ withMeasured measured (now (plant .entry)) ⌝ }
+{
+    match measured {
+        Measured::Frq(word) => {
+            plant[FRQ_ACT] = word as u32;
+        }
+        Measured::Rms(word) => {
+            plant[I_RMS] = word;
+        }
+        Measured::Optime(word) => {
+            plant[OP_TIME] = word;
         }
     }
 }

@@ -1,41 +1,64 @@
-// What runs, and flag 14.
-use crate::plant::Drive;
+// What runs, and the fault flags.
+use crate::plant::CAUSES;
+use crate::plant::DIN1;
+use crate::plant::FLAGS;
+use crate::plant::Plant;
+use table::names::MODE;
+use table::names::SCMD;
 ghost use mathlib.Core.Path.{_≡_};
-ghost use Rattle.drive.specs.Faults.{runs, only14, stopped};
+ghost use Rattle.drive.specs.Faults.{flagStands, runs, acknowledged, without14, only14, stopped};
 
 // The mask of flag 14, which a port's time-out or parity fault raises.
-pub const FLAG_14: u32 = 0x4000;
+pub(crate) const FLAG_14: u32 = 0x4000;
 
-impl Drive {
-    // Whether the drive runs: at MODE 2 by DIN1 while no flag stands, at MODE 3 by SCMD.
-    pub fn running(self) -> bool
-        ensures { λ r. ⌜ r ≡ runs self ⌝ }
-    {
-        if self.mode == 2 {
-            if self.din1 != 0 {
-                return self.flags == 0;
-            }
-            return false;
+// Whether a fault flag stands, 14 included.
+pub fn flag_stands(plant: &Plant) -> bool
+    ensures { λ r. ⌜ r ≡ flagStands (now (plant .entry)) ⌝ }
+{
+    plant[FLAGS] != 0
+}
+
+// Whether the drive runs: at MODE 2 by DIN1 while no flag stands, at MODE 3 by SCMD.
+pub fn running(plant: &Plant) -> bool
+    ensures { λ r. ⌜ r ≡ runs (now (plant .entry)) ⌝ }
+{
+    if plant[MODE] == 2 {
+        if plant[DIN1] != 0 {
+            return plant[FLAGS] == 0;
         }
-        if self.mode == 3 {
-            return self.scmd != 0;
-        }
-        false
+        return false;
     }
+    if plant[MODE] == 3 {
+        return plant[SCMD] != 0;
+    }
+    false
+}
 
-    // Whether 14 is the only flag.
-    pub fn only_14(self) -> bool
-        ensures { λ r. ⌜ r ≡ only14 self ⌝ }
-    {
-        self.flags == FLAG_14
-    }
+// Clears the flags whose cause has ended, but not 14.
+pub fn acknowledge(plant: &mut Plant)
+    ensures { λ _. ⌜ now (plant .exit) ≡ acknowledged (now (plant .entry)) ⌝ }
+{
+    plant[FLAGS] = plant[FLAGS] & (plant[CAUSES] | FLAG_14);
+}
 
-    // The drive after the broadcast stop: flag 14 cleared, SCMD 0.
-    pub fn stopped(mut self) -> Drive
-        ensures { λ r. ⌜ r ≡ stopped self ⌝ }
-    {
-        self.flags &= !FLAG_14;
-        self.scmd = 0;
-        self
-    }
+// Clears flag 14.
+pub fn clear_14(plant: &mut Plant)
+    ensures { λ _. ⌜ now (plant .exit) ≡ without14 (now (plant .entry)) ⌝ }
+{
+    plant[FLAGS] = plant[FLAGS] & !FLAG_14;
+}
+
+// Whether 14 is the only flag.
+pub fn only_14(plant: &Plant) -> bool
+    ensures { λ r. ⌜ r ≡ only14 (now (plant .entry)) ⌝ }
+{
+    plant[FLAGS] == FLAG_14
+}
+
+// What the broadcast stop does: flag 14 is cleared, SCMD is 0.
+pub fn stop(plant: &mut Plant)
+    ensures { λ _. ⌜ now (plant .exit) ≡ stopped (now (plant .entry)) ⌝ }
+{
+    clear_14(plant);
+    plant[SCMD] = 0;
 }

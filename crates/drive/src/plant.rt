@@ -1,36 +1,29 @@
 // The state, at start and after a restart.
+use table::names::MB_ADR;
+use table::names::MODE;
+use table::names::ROWS;
+use table::names::SCMD;
 ghost use mathlib.Core.Path.{_≡_};
 ghost use Rattle.drive.specs.Plant.{started, restarted};
 
-// Rows 301 to 322: each row's word, two's complement, at its line in the table.
-#[repr(C)]
-pub struct Settings {
-    pub words: [u32; 22],
-}
+// Each row's word, two's complement, at its line in the table, and behind the rows the numbers that are no rows. Any words are a plant. The lines of Inv
+// St, which is worked out, and of SioErr, which is the port's, hold nothing.
+pub type Plant = [u32; 34];
 
-// The drive state besides the settings. `din1` is 0 where DIN1 is inactive; bit n of `causes` and `flags` belongs to fault n; `frq`, `rms` and `optime` are
-// FrqAct, I-rms and OpTime.
-#[repr(C)]
-pub struct Drive {
-    pub mode: u32,
-    pub scmd: u32,
-    pub din1: u32,
-    pub causes: u32,
-    pub flags: u32,
-    pub frq: u32,
-    pub rms: u32,
-    pub optime: u32,
-}
+// DIN1: 0 is inactive, any other number active.
+pub const DIN1: usize = ROWS;
 
-// The settings, which routines are lent, and the drive, which goes by value. Every bit pattern is a plant.
-#[repr(C)]
-pub struct Plant {
-    pub settings: Settings,
-    pub drive: Drive,
-}
+// The causes that stand: bit n is fault n.
+pub const CAUSES: usize = ROWS + 1;
 
-// The column Start of rows 301 to 322.
-const START_WORDS: [u32; 22] = [
+// The flags that stand: bit n is fault n.
+pub const FLAGS: usize = ROWS + 2;
+
+// Our own address: what MbAdr held at the last start or restart.
+pub const STATION: usize = ROWS + 3;
+
+// The column Start; DIN1 is inactive, no cause or flag stands, and our own address is MbAdr's start.
+const START: Plant = [
     150,
     400,
     50,
@@ -53,37 +46,34 @@ const START_WORDS: [u32; 22] = [
     1,
     1,
     0,
+    1,
+    0,
+    0,
+    0,
+    0,
+    0,
+    0,
+    0,
+    0,
+    0,
+    0,
+    1,
 ];
 
-impl Plant {
-    // A plant at start.
-    pub fn start() -> Plant
-        ensures { λ r. ⌜ r ≡ started ⌝ }
-    {
-        Plant {
-            settings: Settings { words: START_WORDS },
-            drive: Drive {
-                mode: 1,
-                scmd: 0,
-                din1: 0,
-                causes: 0,
-                flags: 0,
-                frq: 0,
-                rms: 0,
-                optime: 0,
-            },
-        }
-    }
+// A plant at start.
+pub fn start() -> Plant
+    ensures { λ r. ⌜ r ≡ started ⌝ }
+{
+    START
+}
 
-    // The plant after a restart: MODE 1, SCMD 0, and the flags of the standing causes. The rest is kept.
-    pub fn restart(mut self) -> Plant
-        ensures { λ r. ⌜ r ≡ restarted self ⌝ }
-    {
-        let mut drive = self.drive;
-        drive.mode = 1;
-        drive.scmd = 0;
-        drive.flags = drive.causes;
-        self.drive = drive;
-        self
-    }
+// The plant after a restart: MODE 1, SCMD 0, the flags of the standing causes, and MbAdr counts from now on. The rest is kept.
+pub fn restart(plant: &mut Plant)
+    ensures { λ _. ⌜ now (plant .exit) ≡ restarted (now (plant .entry)) ⌝ }
+{
+    let causes = plant[CAUSES];
+    plant[STATION] = plant[MB_ADR];
+    plant[FLAGS] = causes;
+    plant[SCMD] = 0;
+    plant[MODE] = 1;
 }

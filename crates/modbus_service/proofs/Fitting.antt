@@ -12,12 +12,13 @@ use Rattle.base.specs.Choice.{pick, both, either}
 use Rattle.base.proofs.Tests.{pick-both, both-out, either-out}
 use Rattle.table.specs.Find.{rowOfSpan}
 use Rattle.table.specs.declared.labels.Register.{Register}
-use Rattle.drive.specs.declared.plant.Plant.{Plant}
+use Rattle.port.specs.Port.{Numbers}
+use Rattle.drive.specs.Plant.{Plant, station}
 use Rattle.answers.specs.declared.Answer.{Answer}
 use Rattle.answers.specs.declared.Answer.the-variants as Answers
 use Rattle.permit.specs.declared.Permit.{Permit}
 use Rattle.permit.specs.declared.Permit.the-variants as Permits
-use Rattle.writing.specs.Write.{written}
+use Rattle.service.specs.Write.{written}
 use Rattle.service.specs.Serving.{isNone, theRow, permitted, toldServed, wroteServed}
 use Rattle.modbus_words.specs.Words.{wordAt, longAt}
 use Rattle.modbus.specs.Request.{between, reads, writes, asked, requestOf}
@@ -86,59 +87,59 @@ many-fits : (r : Register) (n : ℕ) (s : Span) (x : Permit) → Fits (Many r n 
 many-fits r n s (Permits.Write change) = tt
 many-fits r n s (Permits.Refused refusal) = tt
 
-module _ (p : Plant) (sioerr st a : ℕ) (u : List ℕ) where
+module _ (p : Plant) (q : Numbers) (a : ℕ) (u : List ℕ) where
   abbrev Does : Request → Task → Type 0
-  Does q t = Fits q (done p sioerr t .answer)
+  Does request t = Fits request (done p q t .answer)
 
-  fits : (q : Request) → Fits q (done p sioerr (taskOf st a q u) .answer)
+  fits : (request : Request) → Fits request (done p q (taskOf (station p) a request u) .answer)
   unfolding taskOf done toldServed wroteServed
   fits (Read f r n) =
-      pick-both (Does (Read f r n)) (not (reachesUs st a)) (λ _. tt)
+      pick-both (Does (Read f r n)) (not (reachesUs (station p) a)) (λ _. tt)
       (λ _. pick-both (Does (Read f r n)) (both (toAll a) true) (λ _. tt) (λ _. pick-both (Does (Read f r n)) (isNone (rowOfSpan (r .0) n)) (λ _. tt) (λ _. tt)))
   fits (One r w) =
-      pick-both (Does (One r w)) (not (reachesUs st a)) (λ _. tt)
+      pick-both (Does (One r w)) (not (reachesUs (station p) a)) (λ _. tt)
       (λ _. pick-both (Does (One r w)) (both (toAll a) false) (λ _. tt) (λ _. pick-both (Does (One r w)) (isNone (rowOfSpan (r .0) 1)) (λ _. tt) (λ _. one-fits r w (written p (theRow (rowOfSpan (r .0) 1) .0) w .permit))))
   fits (Many r n s) =
-      pick-both (Does (Many r n s)) (not (reachesUs st a)) (λ _. tt)
+      pick-both (Does (Many r n s)) (not (reachesUs (station p) a)) (λ _. tt)
       (λ _. pick-both (Does (Many r n s)) (both (toAll a) false) (λ _. tt) (λ _. pick-both (Does (Many r n s)) (isNone (rowOfSpan (r .0) n)) (λ _. tt) (λ _. many-fits r n s (written p (theRow (rowOfSpan (r .0) n) .0) (longAt u (s .from)) .permit))))
   fits (Malformed f) =
-      pick-both (Does (Malformed f)) (not (reachesUs st a)) (λ _. tt) (λ _. pick-both (Does (Malformed f)) (both (toAll a) (asksRead (Malformed f))) (λ _. tt) (λ _. tt))
-  fits (Unknown f) = pick-both (Does (Unknown f)) (not (reachesUs st a)) (λ _. tt) (λ _. tt)
+      pick-both (Does (Malformed f)) (not (reachesUs (station p) a)) (λ _. tt) (λ _. pick-both (Does (Malformed f)) (both (toAll a) (asksRead (Malformed f))) (λ _. tt) (λ _. tt))
+  fits (Unknown f) = pick-both (Does (Unknown f)) (not (reachesUs (station p) a)) (λ _. tt) (λ _. tt)
 
-  pub served-fits : Fits (requestOf u) (served p sioerr st a u .answer)
+  pub served-fits : Fits (requestOf u) (served p q a u .answer)
   unfolding served
   served-fits = fits (requestOf u)
 
   -- and it comes from our own address
   abbrev FromUs : Reply → Type 0
   FromUs Nothing = Unit {0}
-  FromUs (Data x) = a ≡ st
+  FromUs (Data x) = a ≡ station p
 
-  any-from : a ≡ st → (r : Reply) → FromUs r
+  any-from : a ≡ station p → (r : Reply) → FromUs r
   any-from e Nothing = tt
   any-from e (Data x) = e
 
-  ours : toAll a ≡ false → not (reachesUs st a) ≡ false → a ≡ st
+  ours : toAll a ≡ false → not (reachesUs (station p) a) ≡ false → a ≡ station p
   unfolding reachesUs
-  ours n r = go (either-out (toAll a) (eqb a st) (not-false (either (toAll a) (eqb a st)) r))
+  ours n r = go (either-out (toAll a) (eqb a (station p)) (not-false (either (toAll a) (eqb a (station p))) r))
     where
-      go : (toAll a ≡ true) ⊎ (eqb a st ≡ true) → a ≡ st
+      go : (toAll a ≡ true) ⊎ (eqb a (station p) ≡ true) → a ≡ station p
       go (inl h) = absurd (true≢false (sym h ∙ n))
-      go (inr h) = eqb-true a st h
+      go (inr h) = eqb-true a (station p) h
 
   abbrev TaskFrom : Task → Type 0
-  TaskFrom t = FromUs (answered (headOf (requestOf u)) (done p sioerr t .answer))
+  TaskFrom t = FromUs (answered (headOf (requestOf u)) (done p q t .answer))
 
-  pick-from : (t : Bool) (x y : Task) → TaskFrom x → (t ≡ false → a ≡ st) → TaskFrom (pick t x y)
-  pick-from t x y d g = pick-both TaskFrom t (λ _. d) (λ e. any-from (g e) (answered (headOf (requestOf u)) (done p sioerr y .answer)))
+  pick-from : (t : Bool) (x y : Task) → TaskFrom x → (t ≡ false → a ≡ station p) → TaskFrom (pick t x y)
+  pick-from t x y d g = pick-both TaskFrom t (λ _. d) (λ e. any-from (g e) (answered (headOf (requestOf u)) (done p q y .answer)))
 
   refused-from : TaskFrom (Refuse Answers.NotOurs)
   unfolding done
   refused-from = tt
 
-  reply-from : FromUs (exchanged p sioerr st a u .reply)
+  reply-from : FromUs (exchanged p q a u .reply)
   unfolding exchanged replied repliedBy served taskOf
-  reply-from = pick-both FromUs (toAll a) (λ _. tt) (λ n. pick-from (not (reachesUs st a)) _ _ refused-from (λ r. ours n r))
+  reply-from = pick-both FromUs (toAll a) (λ _. tt) (λ n. pick-from (not (reachesUs (station p) a)) _ _ refused-from (λ r. ours n r))
 
-  pub from-us : (x : Units.Answer) → exchanged p sioerr st a u .reply ≡ Data x → a ≡ st
+  pub from-us : (x : Units.Answer) → exchanged p q a u .reply ≡ Data x → a ≡ station p
   from-us x e = subst FromUs e reply-from

@@ -13,18 +13,17 @@ use Rattle.table.specs.declared.labels.Row.{Row}
 use Rattle.table.specs.declared.labels.Register.{Register}
 use Rattle.table.specs.declared.labels.Found.{Found}
 use Rattle.table.specs.declared.labels.Found.the-variants.{At, NoRow}
-use Rattle.drive.specs.declared.plant.Drive.{Drive}
-use Rattle.drive.specs.declared.plant.Plant.{Plant}
-use Rattle.drive.specs.Plant.{plantOf}
+use Rattle.port.specs.Port.{Numbers}
+use Rattle.drive.specs.Plant.{Plant, station}
 use Rattle.answers.specs.declared.Answer.{Answer}
 use Rattle.answers.specs.declared.Answer.the-variants as Answers
 use Rattle.answers.specs.declared.Change.{Change}
 use Rattle.answers.specs.declared.Refusal.{Refusal}
 use Rattle.answers.specs.declared.Refusal.the-variants as Refusals
 use Rattle.answers.specs.Answer.{answerNumber}
-use Rattle.service.specs.declared.Done.{Done}
-use Rattle.service.specs.Serving.{Served, servedIn, keeping, kept, toldServed, wroteServed}
-use Rattle.service.proofs.Laws.{wrote-keeps}
+use Rattle.service.specs.Serving.{Served, keeping, permitted, toldServed}
+use Rattle.service.proofs.Laws.{wrote-is, wrote-keeps}
+use Rattle.service.specs.Write.{written}
 use Rattle.modbus_words.specs.Words.{longAt}
 use Rattle.modbus.specs.Request.{requestOf}
 use Rattle.modbus.specs.declared.requests.Span.{Span}
@@ -94,30 +93,30 @@ module _ (st a : ℕ) (q : Request) (u : List ℕ) (t : Bool) (reaches : t ≡ r
     unfolding taskOf
     task-malformed f b e d h = simp (to-us, e, sym d ∙ h)
 
--- ---- what is done
-module _ (p : Plant) (s : ℕ) (t : Task) (r : Served) where
-  pub done-told : (row : Row) → t ≡ Tell row → r ≡ toldServed p s row → r ≡ done p s t
+-- ---- what is done: the plant and the port are `x` and `y` then
+module _ (p : Plant) (q : Numbers) (t : Task) (x : Plant) (a : Answer) where
+  pub done-told : (y : Numbers) (row : Row) → t ≡ Tell row → keeping x y a ≡ toldServed p q row → keeping x y a ≡ done p q t
   unfolding done
-  done-told row h e = rw h e
+  done-told y row h e = rw h e
 
-  pub done-written : (row : Row) (v : ℕ) → t ≡ Write row v → r ≡ wroteServed p s (row .0) v → r ≡ done p s t
+  pub done-written : (row : Row) (v : ℕ) → t ≡ Write row v → x ≡ written p (row .0) v .plant → a ≡ permitted (written p (row .0) v .permit) → keeping x q a ≡ done p q t
   unfolding done
-  done-written row v h e = rw h e
+  done-written row v h d e = rw h (wrote-is p x q (row .0) v a d e)
 
-pub done-refused : (words : List ℕ) (d : Drive) (s : ℕ) (t : Task) (r : Done) (answer : Answer) → t ≡ Refuse answer → r ≡ kept d s answer → servedIn words r ≡ done (plantOf words d) s t
+pub done-refused : (p : Plant) (q : Numbers) (t : Task) (a : Answer) → t ≡ Refuse a → keeping p q a ≡ done p q t
 unfolding done
-done-refused words d s t r answer h e = rw h (ap (servedIn words) e)
+done-refused p q t a h = simp h
 
 -- an outcome other than 0 changes nothing: "Refusals 2 to 9 change no state but the time sum, 1 and 10 to 14 none"
-done-keeps : (p : Plant) (s : ℕ) (t : Task) → (answerNumber (done p s t .answer) ≡ 0 → ⊥) → done p s t ≡ keeping p s (done p s t .answer)
+done-keeps : (p : Plant) (q : Numbers) (t : Task) → (answerNumber (done p q t .answer) ≡ 0 → ⊥) → done p q t ≡ keeping p q (done p q t .answer)
 unfolding done toldServed
-done-keeps p s (Tell row) n = absurd (n refl)
-done-keeps p s (Write row v) n = wrote-keeps p s (row .0) v n
-done-keeps p s (Refuse answer) n = refl
+done-keeps p q (Tell row) n = absurd (n refl)
+done-keeps p q (Write row v) n = wrote-keeps p q (row .0) v n
+done-keeps p q (Refuse answer) n = refl
 
-pub served-keeps : (p : Plant) (s st a : ℕ) (unit : List ℕ) → (answerNumber (served p s st a unit .answer) ≡ 0 → ⊥) → served p s st a unit ≡ keeping p s (served p s st a unit .answer)
+pub served-keeps : (p : Plant) (q : Numbers) (a : ℕ) (unit : List ℕ) → (answerNumber (served p q a unit .answer) ≡ 0 → ⊥) → served p q a unit ≡ keeping p q (served p q a unit .answer)
 unfolding served
-served-keeps p s st a unit = done-keeps p s (taskOf st a (requestOf unit) unit)
+served-keeps p q a unit = done-keeps p q (taskOf (station p) a (requestOf unit) unit)
 
 -- ---- the registers of a row
 pub told-long : (f : ℕ) (row : Row) (w n : ℕ) → n ≡ lineAt (row .0) .registers → n ≡ 2 → w < 4294967296 → Long f w ≡ registersTold f row w
@@ -147,8 +146,9 @@ module _ (a : ℕ) (h : Head) (x : Answer) (one : a ≡ 0 → ⊥) where
   replied-refused refusal n k e = simp (ne-eqb a 0 one, k, e)
 
 -- ---- a unit and its reply
-pub exchange-is : (words : List ℕ) (p : Plant) (s station a : ℕ) (unit : List ℕ) (q : Request) (t : Task) (x : Done) (h : Head) (y : Reply)
-    → q ≡ requestOf unit → t ≡ taskOf station a q unit → servedIn words x ≡ done p s t → h ≡ headOf q → y ≡ repliedBy a h (x .answer)
-    → _≡_ {A = Exchanged} (record { served = servedIn words x; reply = y }) (exchanged p s station a unit)
+pub exchange-is : (p x : Plant) (q y : Numbers) (a : ℕ) (unit : List ℕ) (request : Request) (t : Task) (z : Answer) (h : Head) (r : Reply)
+    → request ≡ requestOf unit → t ≡ taskOf (station p) a request unit → keeping x y z ≡ done p q t → h ≡ headOf request → r ≡ repliedBy a h z
+    → _≡_ {A = Exchanged} (record { served = keeping x y z; reply = r }) (exchanged p q a unit)
 unfolding exchanged served replied
-exchange-is words p s station a unit q t x h y d e f g k = simp (k, g, ← d, ← e) (ap (λ (z : Served). record { served = z; reply = repliedBy a (headOf q) (z .answer) }) f)
+exchange-is p x q y a unit request t z h r d e f g k =
+    simp (k, g, ← d, ← e) (ap (λ (s : Served). record { served = s; reply = repliedBy a (headOf request) (s .answer) }) f)

@@ -6,8 +6,7 @@ use Rattle.table.specs.Table.{rows, lineAt, startWords}
 use Rattle.table.specs.Address.{address, firstRegister}
 use Rattle.table.specs.Find.{firstRow, rowOfSpan}
 use Rattle.allowed.specs.Allowed.{twos, within, allows, allowedAt}
-use Rattle.drive.specs.declared.plant.Plant.{Plant}
-use Rattle.drive.specs.Plant.{withDrive, started}
+use Rattle.drive.specs.Plant.{Plant, flags, started}
 use Rattle.drive.specs.Flags.{flagged, lowestFrom, lowestOf}
 use Rattle.drive.specs.Faults.{flagStands, statusOf, flagRaised, acknowledged}
 use Rattle.drive.specs.Events.{isFault, raised, ended}
@@ -15,7 +14,7 @@ use Rattle.answers.specs.Answer.{answerNumber}
 use Rattle.reading.specs.Read as Reading
 use Rattle.permit.specs.Refusals.{readOnly, boundsOf, allowed, held, permitted}
 use Rattle.permit.specs.Permit.{permitOf}
-use Rattle.writing.specs.Write.{stored, applied, written}
+use Rattle.service.specs.Write.{followed, applied, written}
 use Rattle.service.specs.Serving.{toldServed, wroteServed}
 use Rattle.modbus_words.specs.Words.{wordAt, longAt}
 use Rattle.modbus.specs.Request.{label, reads, writes, asked, requestOf}
@@ -27,14 +26,14 @@ use Rattle.modbus_service.specs.declared.Reply.the-variants.{Nothing, Da
 
 -- fault 5 was raised, and its cause has ended: flag 5, of mask 20h, still stands
 abbrev over : Plant
-over = withDrive (ended 5 (raised 5 (started .drive) .drive) .drive) started
+over = ended 5 (raised 5 started .plant) .plant
 
 -- the outcome's number, the flags then, the reply
 abbrev Result : Type 0
 Result = ℕ × ℕ × Reply
 
 abbrev result : Exchanged → Result
-result e = (answerNumber (e .served .answer), e .served .plant .drive .flags, e .reply)
+result e = (answerNumber (e .served .answer), flags (e .served .plant), e .reply)
 
 -- a plant, an address and a unit, and what they come to
 abbrev pub cases : List ((Plant × ℕ × List ℕ) × Result)
@@ -67,6 +66,6 @@ cases =
     ∷ ((started, 2, 0x2B ∷ []), (1, 0, Nothing))
     ∷ []
 
-pub cases-hold : map (λ (c : (Plant × ℕ × List ℕ) × Result). result (exchanged (c .0 .0) 0 1 (c .0 .1) (c .0 .2))) cases ≡ map (λ (c : (Plant × ℕ × List ℕ) × Result). c .1) cases
-unfolding rows lineAt startWords address firstRegister firstRow rowOfSpan twos within allows allowedAt started flagged lowestFrom lowestOf flagStands statusOf flagRaised acknowledged isFault raised ended Reading.wordAt Reading.told readOnly boundsOf allowed held permitted permitOf stored applied written toldServed wroteServed wordAt longAt reads writes asked requestOf reachesUs taskOf done served registersTold repliedBy replied exchanged
+pub cases-hold : map (λ (c : (Plant × ℕ × List ℕ) × Result). result (exchanged (c .0 .0) (0 ∷ 0 ∷ 0 ∷ []) (c .0 .1) (c .0 .2))) cases ≡ map (λ (c : (Plant × ℕ × List ℕ) × Result). c .1) cases
+unfolding rows lineAt startWords address firstRegister firstRow rowOfSpan twos within allows allowedAt started flagged lowestFrom lowestOf flagStands statusOf flagRaised acknowledged isFault raised ended Reading.stored Reading.told readOnly boundsOf allowed held permitted permitOf followed applied written toldServed wroteServed wordAt longAt reads writes asked requestOf reachesUs taskOf done served registersTold repliedBy replied exchanged
 cases-hold = refl

@@ -6,12 +6,13 @@ use Rattle.base.specs.Choice.{pick}
 use Rattle.table.specs.Table.{lineAt}
 use Rattle.table.specs.declared.labels.Row.{Row}
 use Rattle.table.specs.declared.labels.Register.{Register}
-use Rattle.drive.specs.declared.plant.Plant.{Plant}
+use Rattle.port.specs.Port.{Numbers}
+use Rattle.drive.specs.Plant.{Plant}
 use Rattle.answers.specs.declared.Answer.{Answer}
 use Rattle.answers.specs.declared.Answer.the-variants.{Told, Written, NotOurs, Refused}
 use Rattle.answers.specs.declared.Refusal.{Refusal}
 use Rattle.answers.specs.declared.Refusal.the-variants as Refusals
-use Rattle.service.specs.Serving.{Served, servedIn}
+use Rattle.service.specs.Serving.{Served}
 use Rattle.modbus.specs.Answer.{unitOf}
 use Rattle.modbus.specs.Request.{label, requestOf}
 use Rattle.modbus.specs.declared.requests.Request.{Request}
@@ -69,16 +70,12 @@ pub record Exchanged : Type 0 where
   pub served : Served
   pub reply : Reply
 
--- what the code hands back, with the settings that it was lent
-abbrev pub exchangedIn : List ℕ → Exchange → Exchanged
-exchangedIn words e = record { served = servedIn words (e .done); reply = e .reply }
+-- what the code hands back, with the plant and the port that it was lent
+abbrev pub exchangedIn : Plant → Numbers → Exchange → Exchanged
+exchangedIn p q e = record { served = record { plant = p; port = q; answer = e .answer }; reply = e .reply }
 
-unfoldable pub exchanged : Plant → ℕ → (station address : ℕ) → List ℕ → Exchanged
-exchanged p sioerr station address unit =
-    record {
-      served = served p sioerr station address unit;
-      reply = replied address unit (served p sioerr station address unit .answer);
-    }
+unfoldable pub exchanged : Plant → Numbers → (address : ℕ) → List ℕ → Exchanged
+exchanged p q address unit = record { served = served p q address unit; reply = replied address unit (served p q address unit .answer) }
 
 -- the reply's message, as its line makes messages of an address and a data unit; none where nothing is replied
 abbrev pub sentBy : (ℕ → List ℕ → List ℕ) → ℕ → Reply → List ℕ

@@ -10,7 +10,8 @@ use Rattle.table.specs.Find.{rowOfSpan}
 use Rattle.table.specs.declared.labels.Row.{Row}
 use Rattle.table.specs.declared.labels.Found.{Found}
 use Rattle.table.specs.declared.labels.Found.the-variants.{NoRow}
-use Rattle.drive.specs.declared.plant.Plant.{Plant}
+use Rattle.port.specs.Port.{Numbers}
+use Rattle.drive.specs.Plant.{Plant, station}
 use Rattle.answers.specs.declared.Answer.{Answer}
 use Rattle.answers.specs.declared.Answer.the-variants as Answers
 use Rattle.answers.specs.declared.Refusal.the-variants as Refusals
@@ -100,10 +101,11 @@ unfoldable pub taskOf : (station address : ℕ) → Request → List ℕ → Tas
 taskOf station address request unit = firstOf (saying Refuse (unitLines station address request)) (taskAt (theRow (rowAsked request)) request unit)
 
 -- ---- what is done: a row is read, or written with refusals 3 to 7
-unfoldable pub done : Plant → ℕ → Task → Served
-done p sioerr (Tell row) = toldServed p sioerr row
-done p sioerr (Write row value) = wroteServed p sioerr (row .0) value
-done p sioerr (Refuse answer) = keeping p sioerr answer
+unfoldable pub done : Plant → Numbers → Task → Served
+done p q (Tell row) = toldServed p q row
+done p q (Write row value) = wroteServed p q (row .0) value
+done p q (Refuse answer) = keeping p q answer
 
-unfoldable pub served : Plant → ℕ → (station address : ℕ) → List ℕ → Served
-served p sioerr station address unit = done p sioerr (taskOf station address (requestOf unit) unit)
+-- on a plant, whose own address is its station
+unfoldable pub served : Plant → Numbers → (address : ℕ) → List ℕ → Served
+served p q address unit = done p q (taskOf (station p) address (requestOf unit) unit)

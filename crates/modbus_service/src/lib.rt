@@ -1,18 +1,17 @@
 // A data unit of Modbus, served by the plant, for RTU and ASCII alike: the order of refusals, what is done, and what is replied.
 //
-// `serve` takes a unit and the address before it, is lent the settings and hands back the drive; the reply that it hands back is for the writer of the frame or of the message.
+// `serve` takes a unit and the address before it, and is lent the plant and the port; the reply that it hands back is for the writer of the frame or of the message.
 use answers::Answer;
 use answers::Refusal;
-use drive::Drive;
+use drive::Plant;
+use drive::STATION;
 use modbus::Request;
-use service::Done;
+use port::Numbers;
 use table::Found;
 use table::Register;
 use table::Row;
 ghost use mathlib.Core.Path.{_≡_};
 ghost use Rattle.base.specs.Choice.{both};
-ghost use Rattle.drive.specs.Plant.{plantOf};
-ghost use Rattle.service.specs.Serving.{servedIn};
 ghost use Rattle.modbus_service.specs.Serve.{toAll, reachesUs, reading, taskOf, done};
 ghost use Rattle.modbus_service.specs.Reply.{headOf, exceptionOf, registersTold, repliedBy, exchangedIn, exchanged};
 
@@ -38,28 +37,19 @@ pub enum Reply {
 
 // What a unit came to, and its reply.
 pub struct Exchange {
-    pub done: Done,
+    pub answer: Answer,
     pub reply: Reply,
 }
 
-// Serves a data unit that came behind an address: 03 and 04 tell a row, 06 and 16 write one. A refusal changes nothing. `station` is our own
-// address.
-pub fn serve(
-    settings: &mut [u32; 22],
-    drive: Drive,
-    sioerr: u32,
-    station: u32,
-    address: u8,
-    unit: &[u8],
-) -> Exchange
-    ensures { λ r. ⌜ exchangedIn (now (settings .exit)) r ≡ exchanged (plantOf (now (settings .entry)) drive) sioerr station address (now (unit .entry)) ⌝ }
+// Serves a data unit that came behind an address: 03 and 04 tell a row, 06 and 16 write one. A refusal changes nothing.
+pub fn serve(plant: &mut Plant, port: &mut Numbers, address: u8, unit: &[u8]) -> Exchange
+    ensures { λ r. ⌜ exchangedIn (now (plant .exit)) (now (port .exit)) r ≡ exchanged (now (plant .entry)) (now (port .entry)) address (now (unit .entry)) ⌝ }
 {
     let request = modbus::request_of(unit);
-    let task = task_of(station, address, request, unit);
-    let done = do_task(settings, drive, sioerr, task);
-    let answer = done.answer;
+    let task = task_of(plant[STATION], address, request, unit);
+    let answer = do_task(plant, port, task);
     let reply = reply_to(address, head_of(request), answer);
-    Exchange { done, reply }
+    Exchange { answer, reply }
 }
 
 // Whether the address is ours or broadcast.
@@ -125,13 +115,13 @@ fn broadcast_read(address: u8, function: u8) -> bool
 }
 
 // The row is told or written, with refusals 3 to 7; or nothing changes.
-fn do_task(settings: &mut [u32; 22], drive: Drive, sioerr: u32, task: Task) -> Done
-    ensures { λ r. ⌜ servedIn (now (settings .exit)) r ≡ done (plantOf (now (settings .entry)) drive) sioerr task ⌝ }
+fn do_task(plant: &mut Plant, port: &mut Numbers, task: Task) -> Answer
+    ensures { λ r. ⌜ record { plant = now (plant .exit); port = now (port .exit); answer = r } ≡ done (now (plant .entry)) (now (port .entry)) task ⌝ }
 {
     match task {
-        Task::Tell(row) => service::tell(settings, drive, sioerr, row),
-        Task::Write(row, value) => service::write(settings, drive, sioerr, row, value),
-        Task::Refuse(answer) => service::keep(drive, sioerr, answer),
+        Task::Tell(row) => service::tell(plant, port, row),
+        Task::Write(row, value) => service::write(plant, row, value),
+        Task::Refuse(answer) => answer,
     }
 }
 

@@ -1,15 +1,15 @@
 -- What a scan makes of one byte. Of what is pending only the count, the byte at place 2 and, at the end of a SELECT, the bytes of the BCC
 -- are looked at. Where a beginning is pending, this is document 01's stream call (the law `scan-is`). Any other bits are taken for a
 -- beginning by the same count and byte, and are dropped where they are more than the shape has. Assumes nothing.
-use mathlib.Core.Bool.{Bool, true, false}
+use mathlib.Core.Bool.{Bool, true, false, not}
 use mathlib.Core.List.{List}
-use Prim.Native.Nat.{ℕ, suc}
+use Prim.Native.Nat.{ℕ, suc, _+_}
 use lib.Dec.{eqb, ltb}
 use lib.ListN.{length, getD}
 use Rattle.base.specs.Choice.{pick, both}
 use Rattle.pending.specs.declared.Pending.{Pending}
 use Rattle.pending.specs.Held.{held, emptied, pushed, restarted}
-use Rattle.pending.specs.Scanning.{Feeding}
+use Rattle.pending.specs.Scanning.{Feeding, Scan}
 use Rattle.nfo.specs.Shape.{Kind, any, fits}
 use Rattle.nfo.specs.Message.{enquiry, select, bccIn}
 use Rattle.nfo.specs.declared.scanning.Step.{Step}
@@ -54,6 +54,24 @@ ends p b = endsBy (stepAfter p b) (eqb b (bccIn (p .bytes)))
 
 unfoldable pub fed : Pending → ℕ → Pending
 fed p b = nextBy (stepAfter p b) (eqb b (bccIn (p .bytes))) p b
+
+-- b spoils what is pending. Where nothing is, there is nothing to spoil
+abbrev pub spoilsBy : Step → Bool → ℕ → Bool
+spoilsBy Keeps right n = false
+spoilsBy Ends right n = false
+spoilsBy Checks right n = not right
+spoilsBy Spoils right n = not (eqb n 0)
+
+unfoldable pub spoils : Pending → ℕ → Bool
+spoils p b = spoilsBy (stepAfter p b) (eqb b (bccIn (p .bytes))) (p .len)
+
+-- one turn of the scan, where i bytes were used before: a byte that spoils is not used, but looked at again where nothing is pending
+abbrev pub turnedBy : Bool → Pending → ℕ → ℕ → Scan
+turnedBy true p i b = record { pending = emptied p; used = i; taken = false }
+turnedBy false p i b = record { pending = fed p b; used = i + 1; taken = ends p b }
+
+unfoldable pub turned : Pending → ℕ → ℕ → Scan
+turned p i b = turnedBy (spoils p b) p i b
 
 abbrev pub feeding : Feeding
 feeding = record { ends = ends; next = fed; message = held }

@@ -1,14 +1,16 @@
 // Scanning a scrap for the first message.
 use pending::Scanned;
 use pending::push;
-use pending::restart;
 ghost use mathlib.Core.Path.{_≡_};
+ghost use mathlib.Core.Bool.{false};
 ghost use lib.Dec.{eqb};
+ghost use Prim.Native.Nat.{_<_};
+ghost use lib.ListN.{length, getD};
 ghost use Rattle.base.specs.Choice.{pick, both, either};
 ghost use Rattle.pending.specs.Scanning.{scanFrom, scanIn};
 ghost use Rattle.nfo.specs.Shape.{text, fits};
 ghost use Rattle.nfo.specs.Message.{bccIn};
-ghost use Rattle.nfo.specs.Scan.{stepOf, again, ends, fed, feeding};
+ghost use Rattle.nfo.specs.Scan.{stepOf, turned, feeding};
 ghost use Rattle.nfo.specs.declared.scanning.Step.the-variants.{Keeps, Ends, Checks, Spoils};
 
 // What a byte does to what is pending.
@@ -23,13 +25,7 @@ pub enum Step {
     Spoils,
 }
 
-// What is pending after a byte, and whether it is a message.
-struct Fed {
-    len: usize,
-    taken: bool,
-}
-
-// Scans for the first message: uses the bytes up to its end, or all. A byte is tested once, at its place. The bytes pending are the first `len` of
+// Scans for the first message: uses the bytes up to its end, or all. A byte is tested at its place, and once more where it spoils. The bytes pending are the first `len` of
 // `held`, and stay there.
 //
 // What is pending is taken for a beginning: of its bytes only the one at place 2 is looked at again, and at the end of a SELECT those
@@ -41,16 +37,12 @@ pub fn scan(held: &mut [u8; 512], len: usize, bytes: &[u8]) -> Scanned
     let mut n = len;
     let mut i: usize = 0;
     while i < bytes.len() {
-        let f = feed(held, n, bytes[i]);
-        n = f.len;
-        i += 1;
-        if f.taken {
-            return Scanned {
-                len: n,
-                used: i,
-                taken: true,
-            };
+        let turn = feed(held, n, bytes, i);
+        if turn.taken {
+            return turn;
         }
+        n = turn.len;
+        i = turn.used;
     }
     Scanned {
         len: n,
@@ -59,48 +51,55 @@ pub fn scan(held: &mut [u8; 512], len: usize, bytes: &[u8]) -> Scanned
     }
 }
 
-// One byte, where the first `n` of `held` are pending.
-fn feed(held: &mut [u8; 512], n: usize, b: u8) -> Fed
-    ensures taken { λ r. ⌜ r .taken ≡ ends (record { bytes = now (held .entry); len = n }) b ⌝ }
-    ensures lent { λ r. ⌜ record { bytes = now (held .exit); len = r .len } ≡ fed (record { bytes = now (held .entry); len = n }) b ⌝ }
+// One turn: the byte at `i`, where the first `n` of `held` are pending. A byte that spoils what is pending is not used: it is looked at again, as
+// a beginning of its own.
+fn feed(held: &mut [u8; 512], n: usize, bytes: &[u8], i: usize) -> Scanned
+    requires { ⌜ i < length (now bytes) ⌝ }
+    ensures { λ r. ⌜ scanIn (now (held .exit)) r ≡ turned (record { bytes = now (held .entry); len = n }) i (getD (now (bytes .entry)) i 0) ⌝ }
 {
-    let s = next_step(n, held[2], b);
+    let b = bytes[i];
+    let s = next_step(held, n, b);
     match s {
-        Step::Keeps => Fed {
+        Step::Keeps => Scanned {
             len: push(held, n, b),
+            used: i + 1,
             taken: false,
         },
-        Step::Ends => Fed {
+        Step::Ends => Scanned {
             len: push(held, n, b),
+            used: i + 1,
             taken: true,
         },
         Step::Checks => {
             if b == bcc_in(held) {
-                return Fed {
+                return Scanned {
                     len: push(held, n, b),
+                    used: i + 1,
                     taken: true,
                 };
             }
-            Fed {
-                len: begin(held, b),
-                taken: false,
-            }
+            spoilt(i)
         }
-        Step::Spoils => Fed {
-            len: begin(held, b),
-            taken: false,
-        },
+        Step::Spoils => {
+            if n == 0 {
+                return spoilt(i + 1);
+            }
+            spoilt(i)
+        }
     }
 }
 
-// A byte that spoils what is pending is looked at again, as a beginning of its own.
-fn begin(held: &mut [u8; 512], b: u8) -> usize
-    ensures { λ r. ⌜ record { bytes = now (held .exit); len = r } ≡ again (record { bytes = now (held .entry); len = 0 }) b ⌝ }
+// Nothing is pending any more, and `used` bytes are used.
+fn spoilt(used: usize) -> Scanned
+    ensures len { λ r. ⌜ r .len ≡ 0 ⌝ }
+    ensures used { λ r. ⌜ r .used ≡ used ⌝ }
+    ensures taken { λ r. ⌜ r .taken ≡ false ⌝ }
 {
-    if b == 0x04 {
-        return restart(held, b);
+    Scanned {
+        len: 0,
+        used,
+        taken: false,
     }
-    0
 }
 
 // The BCC of a SELECT whose other bytes are held.
@@ -116,19 +115,26 @@ fn bcc_in(held: &[u8; 512]) -> u8
 // place:    0  1   2  3     6 7  8  9    12 13 14
 // ENQUIRY:  04 ADR p  p p p p 05
 // SELECT:   04 ADR 02 p p p p p  3D v v v v 03 BCC
-fn next_step(n: usize, third: u8, b: u8) -> Step
-    ensures { λ r. ⌜ r ≡ stepOf n third b ⌝ }
+fn next_step(held: &[u8; 512], n: usize, b: u8) -> Step
+    ensures { λ r. ⌜ r ≡ stepOf n (getD (now (held .entry)) 2 0) b ⌝ }
 {
     match n {
         0 => keeps(b == 0x04),
         1 => keeps(is_text(b)),
         2 => keeps(is_third(b)),
-        3..=6 => keeps(is_text(b)),
-        7 => step_at_7(third, b),
-        8 => select_keeps(third, b == 0x3D),
-        9..=12 => select_keeps(third, is_text(b)),
-        13 => select_keeps(third, b == 0x03),
-        _ => last_step(n, third),
+        3 => keeps(is_text(b)),
+        4 => keeps(is_text(b)),
+        5 => keeps(is_text(b)),
+        6 => keeps(is_text(b)),
+        7 => step_at_7(held, b),
+        8 => select_keeps(held, b == 0x3D),
+        9 => select_keeps(held, is_text(b)),
+        10 => select_keeps(held, is_text(b)),
+        11 => select_keeps(held, is_text(b)),
+        12 => select_keeps(held, is_text(b)),
+        13 => select_keeps(held, b == 0x03),
+        14 => step_at_14(held),
+        _ => Step::Spoils,
     }
 }
 
@@ -140,36 +146,37 @@ fn keeps(right: bool) -> Step
 }
 
 // Behind the end of an ENQUIRY only a SELECT goes on.
-fn select_keeps(third: u8, right: bool) -> Step
-    ensures { λ r. ⌜ r ≡ pick (both (eqb third 0x02) right) Keeps Spoils ⌝ }
+fn select_keeps(held: &[u8; 512], right: bool) -> Step
+    ensures { λ r. ⌜ r ≡ pick (both (eqb (getD (now (held .entry)) 2 0) 0x02) right) Keeps Spoils ⌝ }
 {
-    if third == 0x02 {
+    if held[2] == 0x02 {
         return keeps(right);
     }
     Step::Spoils
 }
 
-// Place 7: the last of an ENQUIRY is 05; a SELECT has the end of its parameter there.
-fn step_at_7(third: u8, b: u8) -> Step
-    ensures { λ r. ⌜ r ≡ pick (eqb third 0x02) (pick (fits text b) Keeps Spoils) (pick (eqb b 0x05) Ends Spoils) ⌝ }
+// Place 7: 05 is the last of an ENQUIRY. A SELECT has the end of its parameter there, which is text, and 05 is none.
+fn step_at_7(held: &[u8; 512], b: u8) -> Step
+    ensures { λ r. ⌜ r ≡ pick (eqb (getD (now (held .entry)) 2 0) 0x02) (pick (fits text b) Keeps Spoils) (pick (eqb b 0x05) Ends Spoils) ⌝ }
 {
-    if third == 0x02 {
-        return keeps(is_text(b));
+    if b == 0x05 {
+        if held[2] == 0x02 {
+            return Step::Spoils;
+        }
+        return Step::Ends;
     }
-    if b == 0x05 { Step::Ends } else { Step::Spoils }
+    select_keeps(held, is_text(b))
 }
 
-// Place 14: the BCC of a SELECT. No shape goes on behind it.
-fn last_step(n: usize, third: u8) -> Step
-    ensures { λ r. ⌜ r ≡ pick (both (eqb third 0x02) (eqb n 14)) Checks Spoils ⌝ }
+// Place 14: the BCC of a SELECT.
+fn step_at_14(held: &[u8; 512]) -> Step
+    ensures { λ r. ⌜ r ≡ pick (eqb (getD (now (held .entry)) 2 0) 0x02) Checks Spoils ⌝ }
 {
-    if third == 0x02 {
-        if n == 14 {
-            return Step::Checks;
-        }
-        return Step::Spoils;
+    if held[2] == 0x02 {
+        Step::Checks
+    } else {
+        Step::Spoils
     }
-    Step::Spoils
 }
 
 // Place 2: 02 of a SELECT, or text of an ENQUIRY.

@@ -31,21 +31,21 @@ module _ (m buf : List ℕ) where
     all-lent out e = rw (fitting-all m (length buf) h) (e ∙ rw take-length)
 
 -- ---- REPLY
--- the code's array, with the digits p and v and the BCC x
-abbrev pub laid : ℕ → List ℕ → List ℕ → ℕ → List ℕ
-laid adr p v x =
-    adr ∷ 0x02 ∷ 0x45 ∷ getD p 0 0 ∷ getD p 1 0 ∷ getD p 2 0 ∷ getD p 3 0 ∷ 0x3D ∷ getD v 0 0 ∷ getD v 1 0 ∷ getD v 2 0 ∷ getD v 3 0 ∷ 0x03 ∷ x ∷ []
+-- the code's array, with the eight digits d and the BCC x
+abbrev pub laid : ℕ → List ℕ → ℕ → List ℕ
+laid adr d x =
+    adr ∷ 0x02 ∷ 0x45 ∷ getD d 0 0 ∷ getD d 1 0 ∷ getD d 2 0 ∷ getD d 3 0 ∷ 0x3D ∷ getD d 4 0 ∷ getD d 5 0 ∷ getD d 6 0 ∷ getD d 7 0 ∷ 0x03 ∷ x ∷ []
 
-reply-laid : (adr e w : ℕ) (p v : List ℕ) (x : ℕ) → p ≡ digitsOf e → v ≡ digitsOf w → x ≡ bccOf (take 11 (drop 2 (laid adr p v 0))) → laid adr p v x ≡ replyOf adr e w
+reply-laid : (adr e w : ℕ) (d : List ℕ) (x : ℕ) → d ≡ digitsOf e ++ digitsOf w → x ≡ bccOf (take 11 (drop 2 (laid adr d 0))) → laid adr d x ≡ replyOf adr e w
 unfolding replyOf bodyOf digitsOf hexOf
-reply-laid adr e w p v x a b c = rw (c, a, b)
+reply-laid adr e w d x a c = rw (c, a)
 
-module _ (adr e w : ℕ) (p v : List ℕ) (x : ℕ) (a : p ≡ digitsOf e) (b : v ≡ digitsOf w) (c : x ≡ bccOf (take 11 (drop 2 (laid adr p v 0)))) where
-  pub reply-count : (r n : ℕ) → r ≡ length (fitting (laid adr p v x) n) → r ≡ length (fitting (replyOf adr e w) n)
-  reply-count r n h = h ∙ ap (λ (m : List ℕ). length (fitting m n)) (reply-laid adr e w p v x a b c)
+module _ (adr e w : ℕ) (d : List ℕ) (x : ℕ) (a : d ≡ digitsOf e ++ digitsOf w) (c : x ≡ bccOf (take 11 (drop 2 (laid adr d 0)))) where
+  pub reply-count : (r n : ℕ) → r ≡ length (fitting (laid adr d x) n) → r ≡ length (fitting (replyOf adr e w) n)
+  reply-count r n h = h ∙ ap (λ (m : List ℕ). length (fitting m n)) (reply-laid adr e w d x a c)
 
-  pub reply-lent : (n : ℕ) (out buf : List ℕ) → out ≡ front (fitting (laid adr p v x) n) buf → out ≡ front (fitting (replyOf adr e w) n) buf
-  reply-lent n out buf h = h ∙ ap (λ (m : List ℕ). front (fitting m n) buf) (reply-laid adr e w p v x a b c)
+  pub reply-lent : (n : ℕ) (out buf : List ℕ) → out ≡ front (fitting (laid adr d x) n) buf → out ≡ front (fitting (replyOf adr e w) n) buf
+  reply-lent n out buf h = h ∙ ap (λ (m : List ℕ). front (fitting m n) buf) (reply-laid adr e w d x a c)
 
 -- "REPLY, 14 bytes"
 pub reply-length : (adr e w : ℕ) → length (replyOf adr e w) ≡ 14

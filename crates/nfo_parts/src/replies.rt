@@ -2,6 +2,7 @@
 // writes none and tells 0.
 use table::ENumber;
 ghost use mathlib.Core.Path.{_≡_};
+ghost use mathlib.Core.List.{_++_};
 ghost use lib.ListN.{length};
 ghost use Rattle.base.specs.Buffers.{front, fitting};
 ghost use Rattle.nfo_parts.specs.Replies.{digitsOf, replyOf, ackOf, nakOf};
@@ -11,21 +12,20 @@ pub fn reply(adr: u8, e: ENumber, word: u16, out: &mut [u8]) -> usize
     ensures count { λ r. ⌜ r ≡ length (fitting (replyOf adr (e .0) word) (length (now (out .entry)))) ⌝ }
     ensures lent { λ _. ⌜ now (out .exit) ≡ front (fitting (replyOf adr (e .0) word) (length (now (out .entry)))) (now (out .entry)) ⌝ }
 {
-    let p = digits(e.0);
-    let v = digits(word);
+    let d = digits(e.0, word);
     let mut m = [
         adr,
         0x02,
         b'E',
-        p[0],
-        p[1],
-        p[2],
-        p[3],
+        d[0],
+        d[1],
+        d[2],
+        d[3],
         b'=',
-        v[0],
-        v[1],
-        v[2],
-        v[3],
+        d[4],
+        d[5],
+        d[6],
+        d[7],
         0x03,
         0,
     ];
@@ -61,16 +61,22 @@ fn put(message: &[u8], out: &mut [u8]) -> usize
     bytes::copy(message, out)
 }
 
-// Four hex digits, the high one first.
-fn digits(word: u16) -> [u8; 4]
-    ensures { λ r. ⌜ r ≡ digitsOf word ⌝ }
+// The four hex digits of each, the high one first. Both are made in one call, which the compiler then puts in its place.
+fn digits(e: u16, word: u16) -> [u8; 8]
+    ensures { λ r. ⌜ r ≡ digitsOf e ++ digitsOf word ⌝ }
 {
-    let high = (word / 256) as u8;
-    let low = (word % 256) as u8;
+    let p = (e / 256) as u8;
+    let q = (e % 256) as u8;
+    let v = (word / 256) as u8;
+    let w = (word % 256) as u8;
     [
-        hex::digit_of(high / 16),
-        hex::digit_of(high % 16),
-        hex::digit_of(low / 16),
-        hex::digit_of(low % 16),
+        hex::digit_of(p / 16),
+        hex::digit_of(p % 16),
+        hex::digit_of(q / 16),
+        hex::digit_of(q % 16),
+        hex::digit_of(v / 16),
+        hex::digit_of(v % 16),
+        hex::digit_of(w / 16),
+        hex::digit_of(w % 16),
     ]
 }

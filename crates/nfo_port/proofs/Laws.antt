@@ -12,17 +12,18 @@ use Rattle.nfo_parts.specs.declared.message.Message.{Message}
 use Rattle.nfo_parts.specs.Parts.{messageOf}
 use Rattle.nfo_parts.specs.Replies.{ackOf, nakOf}
 use Rattle.nfo_parts.proofs.Written.{reply-length}
-use Rattle.drive.specs.Plant.{plantOf}
-use Rattle.service.specs.Serving.{servedIn}
-use Rattle.service.specs.declared.Done.{Done}
+use Rattle.port.specs.Port.{Numbers}
+use Rattle.drive.specs.Plant.{Plant}
+use Rattle.service.specs.Serving.{Served}
 use Rattle.nfo_service.specs.Serve as Serve
 use Rattle.nfo_service.specs.Reply.{adrIn, parameterIn, numberOf, repliedBy, replied}
 use Rattle.answers.specs.declared.Answer.{Answer}
 use Rattle.answers.specs.declared.Answer.the-variants.{Told, Written, NotOurs, Refused}
+use Rattle.card.specs.State.{cardOf}
 use Rattle.card.specs.declared.state.Card.{Card}
 use Rattle.card.specs.declared.outcome.Outcome.the-variants as Outcomes
-use Rattle.turn.specs.Core.{cardOf, turnIn, coreAfter}
-use Rattle.turn.specs.declared.Core.{Core}
+use Rattle.turn.specs.Turn.{portAfter}
+use Rattle.turn.specs.Turned.{turnIn}
 use Rattle.turn.specs.Stream.{taken}
 use Rattle.turn.proofs.Laws.{Does, after-in, streamed-used, streamed-uses, streamed-short}
 use Rattle.nfo_port.specs.Receive.{nfoStream, nfoReceived}
@@ -41,20 +42,19 @@ pub reply-short : (m : Message) (a : Answer) → length (replied m a) ≤ 14
 unfolding replied
 reply-short m a = pick-both (λ (b : List ℕ). length b ≤ 14) (eqb (adrIn m) 0x7F) (λ _. omega arith) (λ _. by-short (adrIn m) (numberOf (parameterIn m)) a)
 
--- ---- a message is taken: the arrays `held`, `words` are lent, and `words′` are the settings then
-module _ (held words words′ : List ℕ) (k after : Core) (scan : Scanned) (m : Message) (d : Done) (n : ℕ) (out before : List ℕ) (room : 19 ≤ length before)
-    (parts : m ≡ messageOf held) (serves : servedIn words′ d ≡ Serve.served (plantOf words (k .drive)) (k .sioerr) m)
-    (puts : (n ≡ length (fitting (replied m (d .answer)) (length before))) × (out ≡ front (fitting (replied m (d .answer)) (length before)) before))
-    (leaves : after ≡ coreAfter k d) where
-  whole : fitting (replied m (d .answer)) (length before) ≡ replied m (d .answer)
-  whole = fitting-all (replied m (d .answer)) (length before) (omega (arith, reply-short m (d .answer)))
+-- ---- a message is taken: it is in `held`. The port and the plant are q and p; once it was served y and x; and z is the port with the time sum that the answer leaves
+module _ (held : List ℕ) (q y z : Numbers) (p x : Plant) (scan : Scanned) (m : Message) (a : Answer) (n : ℕ) (out before : List ℕ) (room : 19 ≤ length before)
+    (parts : m ≡ messageOf held) (serves : _≡_ {A = Served} (record { plant = x; port = y; answer = a }) (Serve.served p q m)) (leaves : z ≡ portAfter a y)
+    (puts : (n ≡ length (fitting (replied m a) (length before))) × (out ≡ front (fitting (replied m a) (length before)) before)) where
+  whole : fitting (replied m a) (length before) ≡ replied m a
+  whole = fitting-all (replied m a) (length before) (omega (arith, reply-short m a))
 
-  pub takes : Does (turnIn held words′ (record { core = after; outcome = Outcomes.Served (d .answer); used = scan .used; len = n })) out
-      (taken nfoStream (cardOf held words k) (scanIn held scan)) before
+  pub takes : Does (turnIn held z x (record { pending = 0; outcome = Outcomes.Served a; used = scan .used; len = n })) out
+      (taken nfoStream (cardOf held (scan .len) q p) (scanIn held scan)) before
   takes =
-      let count : n ≡ length (replied m (d .answer)) = rw whole at (puts .0) in
-      let lent : out ≡ front (replied m (d .answer)) before = rw whole at (puts .1) in
-      rw (← parts, ← serves, count, leaves, after-in held words held words′ (scan .len) k d) (refl, lent)
+      let count : n ≡ length (replied m a) = rw whole at (puts .0) in
+      let lent : out ≡ front (replied m a) before = rw whole at (puts .1) in
+      rw (← parts, ← serves, count, after-in held (scan .len) z (record { plant = x; port = y; answer = a }) leaves) (refl, lent)
 
 -- ---- what a caller may count on: the bytes used are there, one at least is used, and a reply has 14 bytes at most
 module _ (c : Card) (bytes : List ℕ) (room : ℕ) where

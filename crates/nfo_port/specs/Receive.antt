@@ -13,7 +13,7 @@ use Rattle.turn.specs.Stream.{Stream, streamed}
 
 -- what a message comes to, on this card
 abbrev pub servedBy : Card → Message → Served
-servedBy c message = Serve.served (c .plant) (c .port .sioerr) message
+servedBy c message = Serve.served (c .plant) (c .port .numbers) message
 
 -- the message's bytes are the first of the array
 abbrev pub nfoStream : Stream

@@ -1,10 +1,10 @@
-// NFO serial on the card's port: `receive` reads a scrap, serves the first message taken and replies to it. The card's two arrays are lent, so that no
-// call copies them.
+// NFO serial on the card's port: `receive` reads a scrap, serves the first message taken and replies to it. The card's parts are lent where they lie.
 use card::Outcome;
+use drive::Plant;
 use pending::Scanned;
-use turn::Core;
-use turn::CoreTurn;
-use turn::core_after;
+use port::Numbers;
+use turn::Turned;
+use turn::after_message;
 use turn::nothing_taken;
 use turn::short_buffer;
 ghost use mathlib.Core.Path.{_≡_};
@@ -13,7 +13,8 @@ ghost use lib.ListN.{length};
 ghost use Rattle.base.specs.Buffers.{front};
 ghost use Rattle.pending.specs.Scanning.{scanIn};
 ghost use Rattle.turn.specs.Turn.{turnOf};
-ghost use Rattle.turn.specs.Core.{cardOf, turnIn};
+ghost use Rattle.card.specs.State.{cardOf};
+ghost use Rattle.turn.specs.Turned.{turnIn};
 ghost use Rattle.turn.specs.Stream.{taken};
 ghost use Rattle.nfo_port.specs.Receive.{nfoStream, nfoReceived};
 
@@ -21,43 +22,43 @@ ghost use Rattle.nfo_port.specs.Receive.{nfoStream, nfoReceived};
 // The caller hands the unused rest again first.
 pub fn receive(
     held: &mut [u8; 512],
-    settings: &mut [u32; 22],
-    core: Core,
+    len: usize,
+    port: &mut Numbers,
+    plant: &mut Plant,
     bytes: &[u8],
     reply: &mut [u8],
-) -> CoreTurn
-    ensures turn { λ r. ⌜ turnIn (now (held .exit)) (now (settings .exit)) r ≡ turnOf (nfoReceived (cardOf (now (held .entry)) (now (settings .entry)) core) (now (bytes .entry)) (length (now (reply .entry)))) ⌝ }
-    ensures lent { λ _. ⌜ now (reply .exit) ≡ front (nfoReceived (cardOf (now (held .entry)) (now (settings .entry)) core) (now (bytes .entry)) (length (now (reply .entry))) .reply) (now (reply .entry)) ⌝ }
+) -> Turned
+    ensures turn { λ r. ⌜ turnIn (now (held .exit)) (now (port .exit)) (now (plant .exit)) r ≡ turnOf (nfoReceived (cardOf (now (held .entry)) len (now (port .entry)) (now (plant .entry))) (now (bytes .entry)) (length (now (reply .entry)))) ⌝ }
+    ensures lent { λ _. ⌜ now (reply .exit) ≡ front (nfoReceived (cardOf (now (held .entry)) len (now (port .entry)) (now (plant .entry))) (now (bytes .entry)) (length (now (reply .entry))) .reply) (now (reply .entry)) ⌝ }
 {
     if reply.len() < 19 {
-        return short_buffer(core);
+        return short_buffer(len);
     }
-    let scan = nfo::scan(held, core.len, bytes);
+    let scan = nfo::scan(held, len, bytes);
     if !scan.taken {
-        return nothing_taken(core, scan);
+        return nothing_taken(scan);
     }
-    take(held, settings, core, scan, reply)
+    take(held, port, plant, scan, reply)
 }
 
 // A message is taken: it is served and replied to.
 fn take(
     held: &[u8; 512],
-    settings: &mut [u32; 22],
-    core: Core,
+    port: &mut Numbers,
+    plant: &mut Plant,
     scan: Scanned,
     reply: &mut [u8],
-) -> CoreTurn
+) -> Turned
     requires { ⌜ 19 ≤ length (now reply) ⌝ }
-    ensures turn { λ r. ⌜ turnIn (now (held .entry)) (now (settings .exit)) r ≡ turnOf (taken nfoStream (cardOf (now (held .entry)) (now (settings .entry)) core) (scanIn (now (held .entry)) scan)) ⌝ }
-    ensures lent { λ _. ⌜ now (reply .exit) ≡ front (taken nfoStream (cardOf (now (held .entry)) (now (settings .entry)) core) (scanIn (now (held .entry)) scan) .reply) (now (reply .entry)) ⌝ }
+    ensures turn { λ r. ⌜ turnIn (now (held .entry)) (now (port .exit)) (now (plant .exit)) r ≡ turnOf (taken nfoStream (cardOf (now (held .entry)) (scan .len) (now (port .entry)) (now (plant .entry))) (scanIn (now (held .entry)) scan)) ⌝ }
+    ensures lent { λ _. ⌜ now (reply .exit) ≡ front (taken nfoStream (cardOf (now (held .entry)) (scan .len) (now (port .entry)) (now (plant .entry))) (scanIn (now (held .entry)) scan) .reply) (now (reply .entry)) ⌝ }
 {
     let message = nfo_parts::read_message(held);
-    let done = nfo_service::serve(settings, core.drive, core.sioerr, message);
-    let answer = done.answer;
+    let answer = nfo_service::serve(plant, port, message);
+    after_message(port, answer);
     let len = nfo_service::write_answer(message, answer, reply);
-    let after = core_after(core, done);
-    CoreTurn {
-        core: after,
+    Turned {
+        pending: 0,
         outcome: Outcome::Served(answer),
         used: scan.used,
         len,

@@ -15,75 +15,76 @@ use Rattle.nfo_parts.specs.declared.message.Message.the-variants.{Enquiry, Sele
 use Rattle.nfo_parts.specs.declared.message.Parameter.{Parameter}
 use Rattle.nfo_parts.specs.declared.message.Value.{Value}
 use Rattle.nfo_parts.specs.declared.message.Value.the-variants.{Word, NotHex}
-use Rattle.drive.specs.declared.plant.Drive.{Drive}
-use Rattle.drive.specs.declared.plant.Plant.{Plant}
-use Rattle.drive.specs.Plant.{plantOf}
+use Rattle.port.specs.Port.{Numbers, withSioerr}
+use Rattle.drive.specs.Plant.{Plant}
 use Rattle.answers.specs.declared.Answer.the-variants as Answers
 use Rattle.answers.specs.declared.Refusal.the-variants as Refusals
 use Rattle.drive.specs.Faults.{stopped}
 use Rattle.permit.specs.Refusals.{readOnly}
-use Rattle.service.specs.declared.Done.{Done}
-use Rattle.service.specs.Serving.{Served, servedIn, kept, toldServed, wroteServed}
+use Rattle.service.specs.Write.{written}
+use Rattle.service.specs.Serving.{Served, keeping, toldServed, permitted}
+use Rattle.service.proofs.Laws.{wrote-is}
 use Rattle.nfo_service.specs.Serve.{toUs, reachesUs, rowNamed, stops, rowSelected, selectServed, enquiryServed, served}
 use Rattle.nfo_service.specs.Reply.{adrIn, parameterIn, numberOf, repliedBy, replied}
 use Rattle.answers.specs.declared.Answer.{Answer}
 
 -- ---- an ENQUIRY
-module _ (words : List ℕ) (d : Drive) (s adr : ℕ) (q : Parameter) (t : Bool) (ours : t ≡ toUs (record { words = words }) adr) where
-  pub enquiry-other : (r : Done) → not t ≡ true → r ≡ kept d s Answers.NotOurs → servedIn words r ≡ enquiryServed (plantOf words d) s adr q
+module _ (p : Plant) (q : Numbers) (adr : ℕ) (name : Parameter) (t : Bool) (ours : t ≡ toUs p adr) where
+  pub enquiry-other : not t ≡ true → keeping p q Answers.NotOurs ≡ enquiryServed p q adr name
   unfolding enquiryServed
-  enquiry-other r h e = simp (sym ours ∙ not-true t h) (ap (servedIn words) e)
+  enquiry-other h = simp (sym ours ∙ not-true t h)
 
-  pub enquiry-none : (r : Done) (g : Found) → not t ≡ false → g ≡ rowNamed q → g ≡ NoRow → r ≡ kept d s (Answers.Refused Refusals.NoRow) → servedIn words r ≡ enquiryServed (plantOf words d) s adr q
+  pub enquiry-none : (g : Found) → not t ≡ false → g ≡ rowNamed name → g ≡ NoRow → keeping p q (Answers.Refused Refusals.NoRow) ≡ enquiryServed p q adr name
   unfolding enquiryServed
-  enquiry-none r g h f n e = simp (sym ours ∙ not-false t h, sym f ∙ n) (ap (servedIn words) e)
+  enquiry-none g h f n = simp (sym ours ∙ not-false t h, sym f ∙ n)
 
-  pub enquiry-told : (r : Served) (g : Found) (row : Row) → not t ≡ false → g ≡ rowNamed q → g ≡ At row → r ≡ toldServed (plantOf words d) s row → r ≡ enquiryServed (plantOf words d) s adr q
+  pub enquiry-told : (r : Served) (g : Found) (row : Row) → not t ≡ false → g ≡ rowNamed name → g ≡ At row → r ≡ toldServed p q row → r ≡ enquiryServed p q adr name
   unfolding enquiryServed
   enquiry-told r g row h f n e = simp (sym ours ∙ not-false t h, sym f ∙ n) e
 
 -- ---- a SELECT
-module _ (words : List ℕ) (d : Drive) (s adr : ℕ) (q : Parameter) (v : Value) (t : Bool) (ours : t ≡ reachesUs (record { words = words }) adr) where
-  pub select-other : (r : Done) → not t ≡ true → r ≡ kept d s Answers.NotOurs → servedIn words r ≡ selectServed (plantOf words d) s adr q v
+module _ (p : Plant) (q : Numbers) (adr : ℕ) (name : Parameter) (v : Value) (t : Bool) (ours : t ≡ reachesUs p adr) where
+  pub select-other : not t ≡ true → keeping p q Answers.NotOurs ≡ selectServed p q adr name v
   unfolding selectServed
-  select-other r h e = simp (sym ours ∙ not-true t h) (ap (servedIn words) e)
+  select-other h = simp (sym ours ∙ not-true t h)
 
-  pub select-none : (r : Done) (g : Found) → not t ≡ false → g ≡ rowNamed q → g ≡ NoRow → r ≡ kept d s (Answers.Refused Refusals.NoRow) → servedIn words r ≡ selectServed (plantOf words d) s adr q v
+  pub select-none : (g : Found) → not t ≡ false → g ≡ rowNamed name → g ≡ NoRow → keeping p q (Answers.Refused Refusals.NoRow) ≡ selectServed p q adr name v
   unfolding selectServed
-  select-none r g h f n e = simp (sym ours ∙ not-false t h, sym f ∙ n) (ap (servedIn words) e)
+  select-none g h f n = simp (sym ours ∙ not-false t h, sym f ∙ n)
 
-  pub select-found : (r : Served) (g : Found) (row : Row) → not t ≡ false → g ≡ rowNamed q → g ≡ At row → r ≡ rowSelected (plantOf words d) s adr row v → r ≡ selectServed (plantOf words d) s adr q v
+  pub select-found : (r : Served) (g : Found) (row : Row) → not t ≡ false → g ≡ rowNamed name → g ≡ At row → r ≡ rowSelected p q adr row v → r ≡ selectServed p q adr name v
   unfolding selectServed
   select-found r g row h f n e = simp (sym ours ∙ not-false t h, sym f ∙ n) e
 
 -- ---- a SELECT of a row that there is
-module _ (words : List ℕ) (d : Drive) (s adr : ℕ) (row : Row) (v : Value) (t : Bool) (reads : t ≡ readOnly (row .0)) where
-  pub row-read-only : (r : Done) → t ≡ true → r ≡ kept d s (Answers.Refused Refusals.ReadOnly) → servedIn words r ≡ rowSelected (plantOf words d) s adr row v
+module _ (p : Plant) (q : Numbers) (adr : ℕ) (row : Row) (v : Value) (t : Bool) (reads : t ≡ readOnly (row .0)) where
+  pub row-read-only : t ≡ true → keeping p q (Answers.Refused Refusals.ReadOnly) ≡ rowSelected p q adr row v
   unfolding rowSelected
-  row-read-only r h e = simp (sym reads ∙ h) (ap (servedIn words) e)
+  row-read-only h = simp (sym reads ∙ h)
 
-  pub row-not-hex : (r : Done) → t ≡ false → v ≡ NotHex → r ≡ kept d s (Answers.Refused Refusals.Malformed) → servedIn words r ≡ rowSelected (plantOf words d) s adr row v
+  pub row-not-hex : t ≡ false → v ≡ NotHex → keeping p q (Answers.Refused Refusals.Malformed) ≡ rowSelected p q adr row v
   unfolding rowSelected
-  row-not-hex r h n e = simp (sym reads ∙ h, n) (ap (servedIn words) e)
+  row-not-hex h n = simp (sym reads ∙ h, n)
 
-  pub row-stops : (w : ℕ) (u : Bool) (x : Drive) → t ≡ false → v ≡ Word w → u ≡ stops d adr (row .0) w → u ≡ true → x ≡ stopped d
-      → servedIn words (record { drive = x; sioerr = 0; answer = Answers.Written (record { row = row; word = w }) }) ≡ rowSelected (plantOf words d) s adr row v
+  pub row-stops : (w : ℕ) (u : Bool) (x : Plant) → t ≡ false → v ≡ Word w → u ≡ stops p adr (row .0) w → u ≡ true → x ≡ stopped p
+      → keeping x (withSioerr 0 q) (Answers.Written (record { row = row; word = w })) ≡ rowSelected p q adr row v
   unfolding rowSelected
   row-stops w u x h n f k e = simp (sym reads ∙ h, n, sym f ∙ k, e)
 
-  pub row-writes : (w : ℕ) (u : Bool) (r : Served) → t ≡ false → v ≡ Word w → u ≡ stops d adr (row .0) w → u ≡ false → r ≡ wroteServed (plantOf words d) s (row .0) w → r ≡ rowSelected (plantOf words d) s adr row v
+  pub row-writes : (w : ℕ) (u : Bool) (x : Plant) (a : Answer) → t ≡ false → v ≡ Word w → u ≡ stops p adr (row .0) w → u ≡ false
+      → x ≡ written p (row .0) w .plant → a ≡ permitted (written p (row .0) w .permit) → keeping x q a ≡ rowSelected p q adr row v
   unfolding rowSelected
-  row-writes w u r h n f k e = simp (sym reads ∙ h, n, sym f ∙ k) e
+  row-writes w u x a h n f k d e = simp (sym reads ∙ h, n, sym f ∙ k) (wrote-is p x q (row .0) w a d e)
 
 -- ---- a message of either kind
-module _ (p : Plant) (s : ℕ) (m : Message) (r : Served) where
-  pub served-enquiry : (adr : ℕ) (q : Parameter) → m ≡ Enquiry adr q → r ≡ enquiryServed p s adr q → r ≡ served p s m
+module _ (p : Plant) (q : Numbers) (m : Message) (r : Served) where
+  pub served-enquiry : (adr : ℕ) (name : Parameter) → m ≡ Enquiry adr name → r ≡ enquiryServed p q adr name → r ≡ served p q m
   unfolding served
-  served-enquiry adr q h e = rw h e
+  served-enquiry adr name h e = rw h e
 
-  pub served-select : (adr : ℕ) (q : Parameter) (v : Value) → m ≡ Select adr q v → r ≡ selectServed p s adr q v → r ≡ served p s m
+  pub served-select : (adr : ℕ) (name : Parameter) (v : Value) → m ≡ Select adr name v → r ≡ selectServed p q adr name v → r ≡ served p q m
   unfolding served
-  served-select adr q v h e = rw h e
+  served-select adr name v h e = rw h e
 
 -- ---- the reply
 fits-none : (room : ℕ) → fitting [] room ≡ []

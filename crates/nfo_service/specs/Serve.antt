@@ -18,10 +18,8 @@ use Rattle.nfo_parts.specs.declared.message.Parameter.{Parameter}
 use Rattle.nfo_parts.specs.declared.message.Parameter.the-variants.{Number, NoNumber}
 use Rattle.nfo_parts.specs.declared.message.Value.{Value}
 use Rattle.nfo_parts.specs.declared.message.Value.the-variants.{Word, NotHex}
-use Rattle.drive.specs.declared.plant.Settings.{Settings}
-use Rattle.drive.specs.declared.plant.Drive.{Drive}
-use Rattle.drive.specs.declared.plant.Plant.{Plant}
-use Rattle.drive.specs.Plant.{withDrive}
+use Rattle.port.specs.Port.{Numbers, withSioerr}
+use Rattle.drive.specs.Plant.{Plant}
 use Rattle.answers.specs.declared.Answer.{Answer}
 use Rattle.answers.specs.declared.Answer.the-variants as Answers
 use Rattle.answers.specs.declared.Refusal.the-variants as Refusals
@@ -40,11 +38,11 @@ abbrev pub toAll : ℕ → Bool
 toAll adr = eqb adr (adrOf 95)
 
 -- "We answer to SiAdr and to 0"
-unfoldable pub toUs : Settings → ℕ → Bool
-toUs s adr = both (not (toAll adr)) (either (eqb adr (adrOf 0)) (eqb adr (adrOf (getD (s .words) SiAdr 0))))
+unfoldable pub toUs : Plant → ℕ → Bool
+toUs p adr = both (not (toAll adr)) (either (eqb adr (adrOf 0)) (eqb adr (adrOf (getD p SiAdr 0))))
 
-unfoldable pub reachesUs : Settings → ℕ → Bool
-reachesUs s adr = either (toAll adr) (toUs s adr)
+unfoldable pub reachesUs : Plant → ℕ → Bool
+reachesUs p adr = either (toAll adr) (toUs p adr)
 
 -- ---- what it names
 unfoldable pub rowNamed : Parameter → Found
@@ -63,10 +61,10 @@ theWord NotHex = 0
 -- ---- the refusals, each with its "When", in the paper's order
 -- "1: other address", for an ENQUIRY also "broadcast read"; "2: no such row"
 abbrev pub enquiryLines : Plant → ℕ → Found → List (Line Answer)
-enquiryLines p adr found = when (not (toUs (p .settings) adr)) Answers.NotOurs ∷ when (isNone found) (Answers.Refused Refusals.NoRow) ∷ []
+enquiryLines p adr found = when (not (toUs p adr)) Answers.NotOurs ∷ when (isNone found) (Answers.Refused Refusals.NoRow) ∷ []
 
 abbrev pub nameLines : Plant → ℕ → Found → List (Line Answer)
-nameLines p adr found = when (not (reachesUs (p .settings) adr)) Answers.NotOurs ∷ when (isNone found) (Answers.Refused Refusals.NoRow) ∷ []
+nameLines p adr found = when (not (reachesUs p adr)) Answers.NotOurs ∷ when (isNone found) (Answers.Refused Refusals.NoRow) ∷ []
 
 -- "3: row is read-only"; "8: value not hex"
 abbrev pub rowLines : Row → Value → List (Line Answer)
@@ -79,29 +77,29 @@ pub nfo-order : (p : Plant) (adr : ℕ) (found : Found) (row : Row) (value : Val
 nfo-order p adr found row value = refl
 
 -- ---- what is done
-unfoldable pub enquiryServed : Plant → ℕ → ℕ → Parameter → Served
-enquiryServed p sioerr adr parameter =
-    firstOf (saying (keeping p sioerr) (enquiryLines p adr (rowNamed parameter)))
-    (toldServed p sioerr (theRow (rowNamed parameter)))
+unfoldable pub enquiryServed : Plant → Numbers → ℕ → Parameter → Served
+enquiryServed p q adr parameter =
+    firstOf (saying (keeping p q) (enquiryLines p adr (rowNamed parameter)))
+    (toldServed p q (theRow (rowNamed parameter)))
 
 -- "A broadcast SELECT of SCMD 0 while 14 is the only flag zeroes SioErr and clears 14 with outcome 0, at any MODE"
-unfoldable pub stops : Drive → ℕ → ℕ → ℕ → Bool
-stops d adr row w = both (toAll adr) (both (eqb row SCMD) (both (eqb w 0) (only14 d)))
+unfoldable pub stops : Plant → ℕ → ℕ → ℕ → Bool
+stops p adr row w = both (toAll adr) (both (eqb row SCMD) (both (eqb w 0) (only14 p)))
 
-abbrev pub stopServed : Plant → Row → ℕ → Served
-stopServed p row w = record { plant = withDrive (stopped (p .drive)) p; sioerr = 0; answer = Answers.Written (record { row = row; word = w }) }
+abbrev pub stopServed : Plant → Numbers → Row → ℕ → Served
+stopServed p q row w = record { plant = stopped p; port = withSioerr 0 q; answer = Answers.Written (record { row = row; word = w }) }
 
 -- a SELECT of a row that there is: past these lines, refusals 4 to 7 or the write
-unfoldable pub rowSelected : Plant → ℕ → ℕ → Row → Value → Served
-rowSelected p sioerr adr row value =
-    firstOf (saying (keeping p sioerr) (rowLines row value))
-    (pick (stops (p .drive) adr (row .0) (theWord value)) (stopServed p row (theWord value)) (wroteServed p sioerr (row .0) (theWord value)))
+unfoldable pub rowSelected : Plant → Numbers → ℕ → Row → Value → Served
+rowSelected p q adr row value =
+    firstOf (saying (keeping p q) (rowLines row value))
+    (pick (stops p adr (row .0) (theWord value)) (stopServed p q row (theWord value)) (wroteServed p q (row .0) (theWord value)))
 
-unfoldable pub selectServed : Plant → ℕ → ℕ → Parameter → Value → Served
-selectServed p sioerr adr parameter value =
-    firstOf (saying (keeping p sioerr) (nameLines p adr (rowNamed parameter)))
-    (rowSelected p sioerr adr (theRow (rowNamed parameter)) value)
+unfoldable pub selectServed : Plant → Numbers → ℕ → Parameter → Value → Served
+selectServed p q adr parameter value =
+    firstOf (saying (keeping p q) (nameLines p adr (rowNamed parameter)))
+    (rowSelected p q adr (theRow (rowNamed parameter)) value)
 
-unfoldable pub served : Plant → ℕ → Message → Served
-served p sioerr (Enquiry adr parameter) = enquiryServed p sioerr adr parameter
-served p sioerr (Select adr parameter value) = selectServed p sioerr adr parameter value
+unfoldable pub served : Plant → Numbers → Message → Served
+served p q (Enquiry adr parameter) = enquiryServed p q adr parameter
+served p q (Select adr parameter value) = selectServed p q adr parameter value

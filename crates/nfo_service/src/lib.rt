@@ -1,15 +1,15 @@
 // A message of NFO serial, served by the plant: the order of refusals, what is done, and what is replied.
 //
-// `serve` does what a message asks, in the settings that it is lent and the drive that it hands back; `write_answer` puts the reply into a lent buffer.
+// `serve` does what a message asks, in the plant and the port that it is lent; `write_answer` puts the reply into a lent buffer.
 use answers::Answer;
 use answers::Change;
 use answers::Refusal;
-use drive::Drive;
+use drive::Plant;
 use nfo_parts::Message;
 use nfo_parts::Parameter;
 use nfo_parts::Value;
-use service::Done;
-use service::keep;
+use port::Numbers;
+use port::SIOERR;
 use table::ENumber;
 use table::Found;
 use table::Row;
@@ -19,28 +19,26 @@ ghost use mathlib.Core.Path.{_≡_};
 ghost use lib.Dec.{eqb};
 ghost use lib.ListN.{length};
 ghost use Rattle.base.specs.Buffers.{front, fitting};
-ghost use Rattle.drive.specs.Plant.{plantOf};
-ghost use Rattle.service.specs.Serving.{servedIn};
 ghost use Rattle.nfo_service.specs.Serve.{adrOf, toUs, reachesUs, rowNamed, stops, rowSelected, selectServed, enquiryServed, served};
 ghost use Rattle.nfo_service.specs.Reply.{adrIn, parameterIn, numberOf, repliedBy, replied};
 
 // Serves a message: an ENQUIRY tells a row, a SELECT writes one. A refusal changes nothing.
-pub fn serve(settings: &mut [u32; 22], drive: Drive, sioerr: u32, message: Message) -> Done
-    ensures { λ r. ⌜ servedIn (now (settings .exit)) r ≡ served (plantOf (now (settings .entry)) drive) sioerr message ⌝ }
+pub fn serve(plant: &mut Plant, port: &mut Numbers, message: Message) -> Answer
+    ensures { λ r. ⌜ record { plant = now (plant .exit); port = now (port .exit); answer = r } ≡ served (now (plant .entry)) (now (port .entry)) message ⌝ }
 {
     match message {
-        Message::Enquiry { adr, parameter } => enquire(settings, drive, sioerr, adr, parameter),
+        Message::Enquiry { adr, parameter } => enquire(plant, port, adr, parameter),
         Message::Select {
             adr,
             parameter,
             value,
-        } => select(settings, drive, sioerr, adr, parameter, value),
+        } => select(plant, port, adr, parameter, value),
     }
 }
 
 // Whether ADR is ours: SiAdr or 0, but for 95, which is broadcast.
-fn to_us(settings: &[u32; 22], adr: u8) -> bool
-    ensures { λ r. ⌜ r ≡ toUs (record { words = now (settings .entry) }) adr ⌝ }
+fn to_us(plant: &Plant, adr: u8) -> bool
+    ensures { λ r. ⌜ r ≡ toUs (now (plant .entry)) adr ⌝ }
 {
     if adr == 0x7F {
         return false;
@@ -48,7 +46,7 @@ fn to_us(settings: &[u32; 22], adr: u8) -> bool
     if adr == 0x20 {
         return true;
     }
-    is_adr(adr, settings[SI_ADR])
+    is_adr(adr, plant[SI_ADR])
 }
 
 // Whether ADR is that of an address.
@@ -59,13 +57,13 @@ fn is_adr(adr: u8, address: u32) -> bool
 }
 
 // Whether ADR is ours or broadcast.
-fn reaches_us(settings: &[u32; 22], adr: u8) -> bool
-    ensures { λ r. ⌜ r ≡ reachesUs (record { words = now (settings .entry) }) adr ⌝ }
+fn reaches_us(plant: &Plant, adr: u8) -> bool
+    ensures { λ r. ⌜ r ≡ reachesUs (now (plant .entry)) adr ⌝ }
 {
     if adr == 0x7F {
         return true;
     }
-    to_us(settings, adr)
+    to_us(plant, adr)
 }
 
 // The row that a message names.
@@ -78,68 +76,58 @@ fn row_of(parameter: Parameter) -> Found
     e.row()
 }
 
-fn enquire(settings: &[u32; 22], drive: Drive, sioerr: u32, adr: u8, parameter: Parameter) -> Done
-    ensures { λ r. ⌜ servedIn (now (settings .entry)) r ≡ enquiryServed (plantOf (now (settings .entry)) drive) sioerr adr parameter ⌝ }
+fn enquire(plant: &mut Plant, port: &mut Numbers, adr: u8, parameter: Parameter) -> Answer
+    ensures { λ r. ⌜ record { plant = now (plant .exit); port = now (port .exit); answer = r } ≡ enquiryServed (now (plant .entry)) (now (port .entry)) adr parameter ⌝ }
 {
-    if !to_us(settings, adr) {
-        return keep(drive, sioerr, Answer::NotOurs);
+    if !to_us(plant, adr) {
+        return Answer::NotOurs;
     }
     let Found::At(row) = row_of(parameter) else {
-        return keep(drive, sioerr, Answer::Refused(Refusal::NoRow));
+        return Answer::Refused(Refusal::NoRow);
     };
-    service::tell(settings, drive, sioerr, row)
+    service::tell(plant, port, row)
 }
 
 fn select(
-    settings: &mut [u32; 22],
-    drive: Drive,
-    sioerr: u32,
+    plant: &mut Plant,
+    port: &mut Numbers,
     adr: u8,
     parameter: Parameter,
     value: Value,
-) -> Done
-    ensures { λ r. ⌜ servedIn (now (settings .exit)) r ≡ selectServed (plantOf (now (settings .entry)) drive) sioerr adr parameter value ⌝ }
+) -> Answer
+    ensures { λ r. ⌜ record { plant = now (plant .exit); port = now (port .exit); answer = r } ≡ selectServed (now (plant .entry)) (now (port .entry)) adr parameter value ⌝ }
 {
-    if !reaches_us(settings, adr) {
-        return keep(drive, sioerr, Answer::NotOurs);
+    if !reaches_us(plant, adr) {
+        return Answer::NotOurs;
     }
     let Found::At(row) = row_of(parameter) else {
-        return keep(drive, sioerr, Answer::Refused(Refusal::NoRow));
+        return Answer::Refused(Refusal::NoRow);
     };
-    select_row(settings, drive, sioerr, adr, row, value)
+    select_row(plant, port, adr, row, value)
 }
 
 // A SELECT of a row that there is.
-fn select_row(
-    settings: &mut [u32; 22],
-    drive: Drive,
-    sioerr: u32,
-    adr: u8,
-    row: Row,
-    value: Value,
-) -> Done
-    ensures { λ r. ⌜ servedIn (now (settings .exit)) r ≡ rowSelected (plantOf (now (settings .entry)) drive) sioerr adr row value ⌝ }
+fn select_row(plant: &mut Plant, port: &mut Numbers, adr: u8, row: Row, value: Value) -> Answer
+    ensures { λ r. ⌜ record { plant = now (plant .exit); port = now (port .exit); answer = r } ≡ rowSelected (now (plant .entry)) (now (port .entry)) adr row value ⌝ }
 {
     if permit::read_only(row) {
-        return keep(drive, sioerr, Answer::Refused(Refusal::ReadOnly));
+        return Answer::Refused(Refusal::ReadOnly);
     }
     let Value::Word(word) = value else {
-        return keep(drive, sioerr, Answer::Refused(Refusal::Malformed));
+        return Answer::Refused(Refusal::Malformed);
     };
     let w = word as u32;
-    if is_stop(drive, adr, row, w) {
-        return Done {
-            drive: drive.stopped(),
-            sioerr: 0,
-            answer: Answer::Written(Change { row, word: w }),
-        };
+    if is_stop(plant, adr, row, w) {
+        drive::stop(plant);
+        port[SIOERR] = 0;
+        return Answer::Written(Change { row, word: w });
     }
-    service::write(settings, drive, sioerr, row, w)
+    service::write(plant, row, w)
 }
 
 // The broadcast stop: SCMD 0 to all, while 14 is the only flag.
-fn is_stop(drive: Drive, adr: u8, row: Row, word: u32) -> bool
-    ensures { λ r. ⌜ r ≡ stops drive adr (row .0) word ⌝ }
+fn is_stop(plant: &Plant, adr: u8, row: Row, word: u32) -> bool
+    ensures { λ r. ⌜ r ≡ stops (now (plant .entry)) adr (row .0) word ⌝ }
 {
     if adr != 0x7F {
         return false;
@@ -150,7 +138,7 @@ fn is_stop(drive: Drive, adr: u8, row: Row, word: u32) -> bool
     if word != 0 {
         return false;
     }
-    drive.only_14()
+    drive::only_14(plant)
 }
 
 // Puts the reply to a message at the start of a lent buffer, and tells its length: 0 where there is none, or where it does not fit.

@@ -6,8 +6,7 @@ use Rattle.base.specs.Choice.{both}
 use Rattle.table.specs.Table.{lineAt}
 use Rattle.table.specs.declared.lines.Class.{Class}
 use Rattle.answers.specs.declared.Refusal.the-variants.{NotPermitted}
-use Rattle.drive.specs.declared.plant.Drive.{Drive}
-use Rattle.drive.specs.declared.plant.Plant.{Plant}
+use Rattle.drive.specs.Plant.{Plant}
 use Rattle.drive.specs.Faults.{flagStands, runs}
 use Rattle.permit.specs.declared.Permit.the-variants.{Write, Refused}
 use Rattle.permit.specs.Refusals.{readOnly, allowed, isInit, held, permitted, writeLines}
@@ -18,20 +17,20 @@ pub at-class : (test : Class → Bool) (row : ℕ) (class k : Class) (r : Bool) 
 at-class test row class k r d e q = q ∙ ap test (sym e ∙ d)
 
 -- an arm of a `match` on the row's class
-pub held-at : (drive : Drive) (row : ℕ) (class k : Class) (r : Bool) → class ≡ lineAt row .class → class ≡ k → r ≡ both (isInit k) (runs drive) → r ≡ held drive row
+pub held-at : (p : Plant) (row : ℕ) (class k : Class) (r : Bool) → class ≡ lineAt row .class → class ≡ k → r ≡ both (isInit k) (runs p) → r ≡ held p row
 unfolding held
-held-at drive row class k r d e q = q ∙ ap (λ (x : Class). both (isInit x) (runs drive)) (sym e ∙ d)
+held-at p row class k r d e q = q ∙ ap (λ (x : Class). both (isInit x) (runs p)) (sym e ∙ d)
 
 -- the order past its fourth test
-module _ (p : Plant) (row w : ℕ) (o a h t : Bool) (reads : o ≡ readOnly row) (writable : o ≡ false) (allows : a ≡ allowed p row w) (fine : not a ≡ false) (unflagged : p .drive .flags ≡ 0)
-    (holds : h ≡ held (p .drive) row) (free : h ≡ false) (permits : t ≡ permitted (p .drive) row w) where
+module _ (p : Plant) (row w : ℕ) (o a f h t : Bool) (reads : o ≡ readOnly row) (writable : o ≡ false) (allows : a ≡ allowed p row w) (fine : not a ≡ false) (flags : f ≡ flagStands p) (unflagged : f ≡ false)
+    (holds : h ≡ held p row) (free : h ≡ false) (permits : t ≡ permitted p row w) where
   pub permit-no : not t ≡ true → Refused NotPermitted ≡ permitOf p row w
-  unfolding flagStands permitOf
-  permit-no e = simp (← reads, writable, ← allows, fine, unflagged, ← holds, free, ← permits, e)
+  unfolding permitOf
+  permit-no e = simp (← reads, writable, ← allows, fine, ← flags, unflagged, ← holds, free, ← permits, e)
 
   pub permit-yes : not t ≡ false → Write (record { row = record { 0 = row }; word = w }) ≡ permitOf p row w
-  unfolding flagStands permitOf
-  permit-yes e = simp (← reads, writable, ← allows, fine, unflagged, ← holds, free, ← permits, e)
+  unfolding permitOf
+  permit-yes e = simp (← reads, writable, ← allows, fine, ← flags, unflagged, ← holds, free, ← permits, e)
 
 -- a row that can be written is refused by 4 to 7 alone
 pub permit-writable : (p : Plant) (row w : ℕ) → readOnly row ≡ false → permitOf p row w ≡ permitBy (writeLines p row w) row w

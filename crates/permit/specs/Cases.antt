@@ -7,11 +7,10 @@ use Rattle.table.specs.Names.{P-Nom, I-magn, R-fix1, SpdScl-num, MODE, SCMD, In
 use Rattle.table.specs.Table.{rows, lineAt, startWords}
 use Rattle.allowed.specs.Allowed.{twos, numberOf, within, member, belowLimt, aboveMagn, atMode, setpointAllows, allows, allowedAt}
 use Rattle.answers.specs.Answer.{refusalNumber}
-use Rattle.drive.specs.declared.plant.Plant.{Plant}
-use Rattle.drive.specs.Plant.{started}
+use Rattle.drive.specs.Plant.{Plant, started}
 use Rattle.drive.specs.Faults.{active, flagStands, runs, flagRaised}
 use Rattle.drive.specs.Events.{portFault, withActive}
-use Rattle.drive.specs.Cases.{bus, bus-runs, silent, plantWith}
+use Rattle.drive.specs.Cases.{bus, bus-runs, silent}
 use Rattle.permit.specs.declared.Permit.{Permit}
 use Rattle.permit.specs.declared.Permit.the-variants.{Write, Refused}
 use Rattle.permit.specs.Refusals.{readOnly, boundsOf, allowed, held, permitted}
@@ -34,15 +33,15 @@ cases =
     ∷ (outcome started R-fix1 0xB1E0, 0)
     ∷ (outcome started R-fix1 0xB1DF, 4)
     -- the refusals, and which comes first
-    ∷ (outcome (plantWith silent) Inv-St 1, 3)
-    ∷ (outcome (plantWith silent) P-Nom 0, 4)
-    ∷ (outcome (plantWith silent) P-Nom 150, 5)
-    ∷ (outcome (plantWith bus-runs) P-Nom 150, 6)
-    ∷ (outcome (plantWith bus) P-Nom 150, 0)
+    ∷ (outcome silent Inv-St 1, 3)
+    ∷ (outcome silent P-Nom 0, 4)
+    ∷ (outcome silent P-Nom 150, 5)
+    ∷ (outcome bus-runs P-Nom 150, 6)
+    ∷ (outcome bus P-Nom 150, 0)
     ∷ (outcome started SCMD 0, 7)
-    ∷ (outcome (plantWith bus) SCMD 257, 0)
-    ∷ (outcome (plantWith (withActive false bus)) SCMD 257, 7)
-    ∷ (outcome (plantWith (withActive false bus)) SCMD 0, 0)
+    ∷ (outcome bus SCMD 257, 0)
+    ∷ (outcome (withActive false bus) SCMD 257, 7)
+    ∷ (outcome (withActive false bus) SCMD 0, 0)
     ∷ (outcome started MODE 0x10003, 4)
     ∷ (outcome started SpdScl-num 0x10003, 0)
     ∷ []

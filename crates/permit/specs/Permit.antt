@@ -3,7 +3,7 @@ use mathlib.Core.List.{List, _∷_}
 use Prim.Native.Nat.{ℕ}
 use Rattle.base.specs.Order.{Line, firstOf, saying}
 use Rattle.answers.specs.declared.Refusal.{Refusal}
-use Rattle.drive.specs.declared.plant.Plant.{Plant}
+use Rattle.drive.specs.Plant.{Plant}
 use Rattle.permit.specs.declared.Permit.{Permit}
 use Rattle.permit.specs.declared.Permit.the-variants.{Write, Refused}
 use Rattle.permit.specs.Refusals.{readLine, writeLines}

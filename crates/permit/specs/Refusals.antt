@@ -16,9 +16,7 @@ use Rattle.allowed.specs.declared.Bounds.{Bounds}
 use Rattle.answers.specs.Answer.{refusalNumber}
 use Rattle.answers.specs.declared.Refusal.{Refusal}
 use Rattle.answers.specs.declared.Refusal.the-variants.{ReadOnly, NotAllowed, FlagStands, Running, NotPermitted}
-use Rattle.drive.specs.declared.plant.Settings.{Settings}
-use Rattle.drive.specs.declared.plant.Drive.{Drive}
-use Rattle.drive.specs.declared.plant.Plant.{Plant}
+use Rattle.drive.specs.Plant.{Plant, mode}
 use Rattle.drive.specs.Faults.{active, flagStands, runs}
 
 -- ---- the column When
@@ -32,11 +30,11 @@ unfoldable pub readOnly : ℕ → Bool
 readOnly row = isRead (lineAt row .class)
 
 -- 4: "value not allowed", by the words of I-magn, I-limt and Mode
-unfoldable pub boundsOf : Settings → Bounds
-boundsOf s = record { magn = getD (s .words) I-magn 0; limt = getD (s .words) I-limt 0; mode = getD (s .words) Mode 0 }
+unfoldable pub boundsOf : Plant → Bounds
+boundsOf p = record { magn = getD p I-magn 0; limt = getD p I-limt 0; mode = getD p Mode 0 }
 
 unfoldable pub allowed : Plant → ℕ → ℕ → Bool
-allowed p row w = allowedAt row (boundsOf (p .settings)) w
+allowed p row w = allowedAt row (boundsOf p) w
 
 -- 6: "Init row, running"
 abbrev pub isInit : Class → Bool
@@ -44,12 +42,12 @@ isInit Init = true
 isInit Run = false
 isInit Read = false
 
-unfoldable pub held : Drive → ℕ → Bool
-held d row = both (isInit (lineAt row .class)) (runs d)
+unfoldable pub held : Plant → ℕ → Bool
+held p row = both (isInit (lineAt row .class)) (runs p)
 
 -- 7: "SCMD is written only at MODE 3; run values need DIN1 active"
-unfoldable pub permitted : Drive → ℕ → ℕ → Bool
-permitted d row w = either (not (eqb row SCMD)) (both (eqb (d .mode) 3) (either (eqb w 0) (active d)))
+unfoldable pub permitted : Plant → ℕ → ℕ → Bool
+permitted p row w = either (not (eqb row SCMD)) (both (eqb (mode p) 3) (either (eqb w 0) (active p)))
 
 -- ---- the order, which each protocol begins with lines of its own
 abbrev pub readLine : ℕ → Line Refusal
@@ -58,9 +56,9 @@ readLine row = when (readOnly row) ReadOnly
 abbrev pub writeLines : Plant → ℕ → ℕ → List (Line Refusal)
 writeLines p row w =
     when (not (allowed p row w)) NotAllowed
-    ∷ when (flagStands (p .drive)) FlagStands
-    ∷ when (held (p .drive) row) Running
-    ∷ when (not (permitted (p .drive) row w)) NotPermitted
+    ∷ when (flagStands p) FlagStands
+    ∷ when (held p row) Running
+    ∷ when (not (permitted p row w)) NotPermitted
     ∷ []
 
 -- "Order: .. 3, .. 4, 5, 6, 7"

@@ -8,26 +8,31 @@ use Rattle.drive.specs.Plant.{started}
 use Rattle.drive.specs.Flags.{flagged, lowestFrom, lowestOf}
 use Rattle.drive.specs.Faults.{active, flagStands, runs, statusOf, flagRaised, acknowledged, without14}
 use Rattle.drive.specs.Events.{isFault, raised, ended, portFault, withActive}
-use Rattle.drive.specs.Cases.{faulty, over, silent, plantWith}
-use Rattle.reading.specs.Read.{wordAt, told}
+use Rattle.drive.specs.Cases.{faulty, over, silent}
+use Rattle.port.specs.Port.{Numbers, sioerr}
+use Rattle.reading.specs.Read.{stored, told}
+
+-- a port whose SioErr is this
+abbrev port : ℕ → Numbers
+port x = 0 ∷ 0 ∷ x ∷ []
 
 abbrev pub cases : List (ℕ × ℕ)
 cases =
-    (told started P-Nom 0 .word, 150)
+    (told started (port 0) P-Nom .word, 150)
     -- fault 5 is told until its cause has ended and it is acknowledged, by 00E8 and not by 00E9
-    ∷ (told (plantWith faulty) Inv-St-ack 0 .word, 5)
-    ∷ (statusOf (told (plantWith faulty) Inv-St-ack 0 .drive), 5)
-    ∷ (told (plantWith over) Inv-St 0 .word, 5)
-    ∷ (statusOf (told (plantWith over) Inv-St 0 .drive), 5)
-    ∷ (told (plantWith over) Inv-St-ack 0 .word, 5)
-    ∷ (statusOf (told (plantWith over) Inv-St-ack 0 .drive), 37)
+    ∷ (told faulty (port 0) Inv-St-ack .word, 5)
+    ∷ (statusOf (told faulty (port 0) Inv-St-ack .plant), 5)
+    ∷ (told over (port 0) Inv-St .word, 5)
+    ∷ (statusOf (told over (port 0) Inv-St .plant), 5)
+    ∷ (told over (port 0) Inv-St-ack .word, 5)
+    ∷ (statusOf (told over (port 0) Inv-St-ack .plant), 37)
     -- 14 is not acknowledged; reading SioErr clears both
-    ∷ (statusOf (told (plantWith silent) Inv-St-ack 1 .drive), 14)
-    ∷ (told (plantWith silent) SioErr 1 .word, 1)
-    ∷ (told (plantWith silent) SioErr 1 .sioerr, 0)
-    ∷ (statusOf (told (plantWith silent) SioErr 1 .drive), 37)
+    ∷ (statusOf (told silent (port 1) Inv-St-ack .plant), 14)
+    ∷ (told silent (port 1) SioErr .word, 1)
+    ∷ (sioerr (told silent (port 1) SioErr .port), 0)
+    ∷ (statusOf (told silent (port 1) SioErr .plant), 37)
     ∷ []
 
 pub cases-hold : map (λ (c : ℕ × ℕ). c .0) cases ≡ map (λ (c : ℕ × ℕ). c .1) cases
-unfolding rows startWords started flagged lowestFrom lowestOf active flagStands runs statusOf flagRaised acknowledged without14 isFault raised ended portFault withActive wordAt told
+unfolding rows startWords started flagged lowestFrom lowestOf active flagStands runs statusOf flagRaised acknowledged without14 isFault raised ended portFault withActive stored told
 cases-hold = refl

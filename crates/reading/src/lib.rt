@@ -1,69 +1,45 @@
-// Reading a row of a plant: the word that it tells, and what the read does.
+// Reading a row: the word that it tells, and what the read does.
 //
-// SioErr belongs to a port, so it goes in as a number and comes back. The settings are lent: no read changes them.
+// A row tells the word that stands at its line in the plant, but for Inv St, which is worked out, and SioErr, which is the port's.
 mod status;
 
-use drive::Drive;
-use drive::FLAG_14;
+use drive::Plant;
+use port::Numbers;
+use port::SIOERR;
 use status::status_of;
 use table::Row;
 use table::names::*;
 ghost use mathlib.Core.Path.{_≡_};
-ghost use Rattle.drive.specs.Plant.{plantOf};
-ghost use Rattle.reading.specs.Read.{wordAt, told};
-
-// The drive and SioErr after a read, and the word that it told.
-pub struct Told {
-    pub drive: Drive,
-    pub sioerr: u32,
-    pub word: u32,
-}
+ghost use Rattle.reading.specs.Read.{stored, told};
 
 // Reads a row: tells its word, then acknowledges where the row is Inv St, ack, and zeroes SioErr and flag 14 where it is SioErr. Any other row changes nothing.
-pub fn read(settings: &[u32; 22], mut drive: Drive, row: Row, sioerr: u32) -> Told
-    ensures { λ r. ⌜ r ≡ told (plantOf (now (settings .entry)) drive) (row .0) sioerr ⌝ }
+pub fn read(plant: &mut Plant, port: &mut Numbers, row: Row) -> u32
+    ensures { λ r. ⌜ record { plant = now (plant .exit); port = now (port .exit); word = r } ≡ told (now (plant .entry)) (now (port .entry)) (row .0) ⌝ }
 {
     let n = row.0;
-    let word = word_of(settings, drive, n, sioerr);
     if n == INV_ST_ACK {
-        drive.flags &= drive.causes | FLAG_14;
-        return Told {
-            drive,
-            sioerr,
-            word,
-        };
+        let word = status_of(plant);
+        drive::acknowledge(plant);
+        return word;
+    }
+    if n == INV_ST {
+        return status_of(plant);
     }
     if n == SIO_ERR {
-        drive.flags &= !FLAG_14;
-        return Told {
-            drive,
-            sioerr: 0,
-            word,
-        };
+        let word = port[SIOERR];
+        port[SIOERR] = 0;
+        drive::clear_14(plant);
+        return word;
     }
-    Told {
-        drive,
-        sioerr,
-        word,
-    }
+    stored_at(plant, n)
 }
 
-// The word that a row tells, with SioErr as the port has it. A row past the table tells 0.
-fn word_of(settings: &[u32; 22], drive: Drive, row: usize, sioerr: u32) -> u32
-    ensures { λ r. ⌜ r ≡ wordAt (plantOf (now (settings .entry)) drive) row sioerr ⌝ }
+// The word at a row's line. A row past the table tells 0.
+fn stored_at(plant: &Plant, row: usize) -> u32
+    ensures { λ r. ⌜ r ≡ stored (now (plant .entry)) row ⌝ }
 {
-    if row < 22 {
-        return settings[row];
+    if row < ROWS {
+        return plant[row];
     }
-    match row {
-        MODE => drive.mode,
-        SCMD => drive.scmd,
-        INV_ST_ACK => status_of(drive),
-        INV_ST => status_of(drive),
-        SIO_ERR => sioerr,
-        FRQ_ACT => drive.frq,
-        I_RMS => drive.rms,
-        OP_TIME => drive.optime,
-        _ => 0,
-    }
+    0
 }

@@ -1,24 +1,26 @@
 // What Inv St tells.
-use drive::Drive;
+use drive::FLAGS;
+use drive::Plant;
+use table::names::MODE;
 ghost use mathlib.Core.Path.{_≡_};
 ghost use Rattle.drive.specs.Flags.{lowestOf};
 ghost use Rattle.drive.specs.Faults.{statusOf};
 
 // Inv St: the lowest flagged number, else the number of the MODE, standing or running.
-pub(crate) fn status_of(drive: Drive) -> u32
-    ensures { λ r. ⌜ r ≡ statusOf drive ⌝ }
+pub(crate) fn status_of(plant: &Plant) -> u32
+    ensures { λ r. ⌜ r ≡ statusOf (now (plant .entry)) ⌝ }
 {
-    if drive.flags != 0 {
-        return lowest(drive.flags);
+    if plant[FLAGS] != 0 {
+        return lowest(plant[FLAGS]);
     }
-    if drive.mode == 2 {
-        if drive.running() {
+    if plant[MODE] == 2 {
+        if drive::running(plant) {
             return 34;
         }
         return 33;
     }
-    if drive.mode == 3 {
-        if drive.running() {
+    if plant[MODE] == 3 {
+        if drive::running(plant) {
             return 38;
         }
         return 37;

@@ -7,12 +7,10 @@ use borrow.Author.Tests.{ne-eqb}
 use lib.Dec.{eqb}
 use lib.ListN.{length}
 use Rattle.base.proofs.Tests.{pick-both}
+use Rattle.card.specs.State.{protocolOf}
 use Rattle.card.specs.declared.state.Card.{Card}
 use Rattle.turn.specs.Turn.{Received}
-use Rattle.turn.specs.Core.{cardOf, coreOf, turnIn}
 use Rattle.turn.specs.declared.Turn.{Turn}
-use Rattle.turn.specs.declared.Core.{Core}
-use Rattle.turn.specs.declared.CoreTurn.{CoreTurn}
 use Rattle.turn.proofs.Laws.{Does}
 use Rattle.nfo_port.specs.Receive.{nfoReceived}
 use Rattle.nfo_port.proofs.Laws.{nfo-used, nfo-uses, nfo-short}
@@ -24,22 +22,22 @@ use Rattle.receive.specs.Receive.{received}
 
 module _ (c : Card) (bytes : List ℕ) (room : ℕ) where
   -- ---- by the number in the port
-  pub by-rtu : c .port .protocol ≡ 1 → received c bytes room ≡ rtuReceived c bytes room
+  pub by-rtu : protocolOf c ≡ 1 → received c bytes room ≡ rtuReceived c bytes room
   unfolding received
   by-rtu p = rw p
 
-  pub by-ascii : c .port .protocol ≡ 2 → received c bytes room ≡ asciiReceived c bytes room
+  pub by-ascii : protocolOf c ≡ 2 → received c bytes room ≡ asciiReceived c bytes room
   unfolding received
   by-ascii p = rw p
 
-  pub by-nfo : (c .port .protocol ≡ 1 → ⊥) → (c .port .protocol ≡ 2 → ⊥) → received c bytes room ≡ nfoReceived c bytes room
+  pub by-nfo : (protocolOf c ≡ 1 → ⊥) → (protocolOf c ≡ 2 → ⊥) → received c bytes room ≡ nfoReceived c bytes room
   unfolding received
   by-nfo p q = simp (ne-eqb _ _ p, ne-eqb _ _ q)
 
   -- what holds of each protocol's call
   of-each : (Q : Received → Type 0) → Q (rtuReceived c bytes room) → Q (asciiReceived c bytes room) → Q (nfoReceived c bytes room) → Q (received c bytes room)
   unfolding received
-  of-each Q r a n = pick-both Q (eqb (c .port .protocol) 1) (λ e. r) (λ e. pick-both Q (eqb (c .port .protocol) 2) (λ e. a) (λ e. n))
+  of-each Q r a n = pick-both Q (eqb (protocolOf c) 1) (λ e. r) (λ e. pick-both Q (eqb (protocolOf c) 2) (λ e. a) (λ e. n))
 
   -- ---- the bytes used are there, one at least is used where there is one and the buffer is no shorter than 19, and a reply has 19 bytes at most
   pub received-used : received c bytes room .used ≤ length bytes
@@ -55,9 +53,3 @@ module _ (c : Card) (bytes : List ℕ) (room : ℕ) where
 -- the call of a protocol is the call
 pub does : (r : Turn) (out before : List ℕ) (k l : Received) → k ≡ l → Does r out l before → Does r out k before
 does r out before k l e d = rw e d
-
--- a card that is taken apart, called, and put together
-pub whole : (c : Card) (held words : List ℕ) (k : Core) (t : CoreTurn) (bytes out before : List ℕ) → k ≡ coreOf c
-    → Does (turnIn held words t) out (received (cardOf (c .port .pending .bytes) (c .plant .settings .words) k) bytes (length before)) before
-    → Does (turnIn held words t) out (received c bytes (length before)) before
-whole c held words k t bytes out before e d = rw e at d

@@ -1,19 +1,19 @@
-// Bytes from the line, by the port's protocol: `receive` is the call that every line makes of the card. `receive_in` is the same call of a card whose two
-// arrays are lent, so that none of them is copied.
+// Bytes from the line, by the port's protocol: `receive` is the call that every line makes of the card. `receive_in` is the same call of a card whose parts are
+// lent where they lie.
 use card::Card;
 use card::Port;
 use drive::Plant;
-use drive::Settings;
 use pending::Pending;
-use turn::Core;
-use turn::CoreTurn;
+use port::Numbers;
+use port::PROTOCOL;
 use turn::Turn;
-use turn::core_of;
+use turn::Turned;
 ghost use mathlib.Core.Path.{_≡_};
 ghost use lib.ListN.{length};
 ghost use Rattle.base.specs.Buffers.{front};
+ghost use Rattle.card.specs.State.{cardOf};
 ghost use Rattle.turn.specs.Turn.{turnOf};
-ghost use Rattle.turn.specs.Core.{cardOf, turnIn};
+ghost use Rattle.turn.specs.Turned.{turnIn};
 ghost use Rattle.receive.specs.Receive.{received};
 
 // Reads bytes by the port's protocol, serves the first message taken, and puts its reply at the start of `reply`, which has 19 bytes at least. For NFO
@@ -24,30 +24,28 @@ pub fn receive(card: Card, bytes: &[u8], reply: &mut [u8]) -> Turn
 {
     let port = card.port;
     let pending = port.pending;
-    let plant = card.plant;
-    let settings = plant.settings;
     let mut held = pending.bytes;
-    let mut words = settings.words;
-    let turn = receive_in(&mut held, &mut words, core_of(card), bytes, reply);
-    let core = turn.core;
+    let mut numbers = port.numbers;
+    let mut plant = card.plant;
+    let turn = receive_in(
+        &mut held,
+        pending.len,
+        &mut numbers,
+        &mut plant,
+        bytes,
+        reply,
+    );
     let outcome = turn.outcome;
-    let drive = core.drive;
     Turn {
         card: Card {
             port: Port {
                 pending: Pending {
                     bytes: held,
-                    len: core.len,
+                    len: turn.pending,
                 },
-                protocol: core.protocol,
-                sum: core.sum,
-                sioerr: core.sioerr,
+                numbers,
             },
-            plant: Plant {
-                settings: Settings { words },
-                drive,
-            },
-            station: core.station,
+            plant,
         },
         outcome,
         used: turn.used,
@@ -55,22 +53,24 @@ pub fn receive(card: Card, bytes: &[u8], reply: &mut [u8]) -> Turn
     }
 }
 
-// The same call of a card whose bytes pending are in `held` and whose settings are in `settings`.
+// The same call of a card whose bytes pending are the first `len` of `held`, whose port's numbers are in `port` and whose plant is in `plant`.
 pub fn receive_in(
     held: &mut [u8; 512],
-    settings: &mut [u32; 22],
-    core: Core,
+    len: usize,
+    port: &mut Numbers,
+    plant: &mut Plant,
     bytes: &[u8],
     reply: &mut [u8],
-) -> CoreTurn
-    ensures turn { λ r. ⌜ turnIn (now (held .exit)) (now (settings .exit)) r ≡ turnOf (received (cardOf (now (held .entry)) (now (settings .entry)) core) (now (bytes .entry)) (length (now (reply .entry)))) ⌝ }
-    ensures lent { λ _. ⌜ now (reply .exit) ≡ front (received (cardOf (now (held .entry)) (now (settings .entry)) core) (now (bytes .entry)) (length (now (reply .entry))) .reply) (now (reply .entry)) ⌝ }
+) -> Turned
+    ensures turn { λ r. ⌜ turnIn (now (held .exit)) (now (port .exit)) (now (plant .exit)) r ≡ turnOf (received (cardOf (now (held .entry)) len (now (port .entry)) (now (plant .entry))) (now (bytes .entry)) (length (now (reply .entry)))) ⌝ }
+    ensures lent { λ _. ⌜ now (reply .exit) ≡ front (received (cardOf (now (held .entry)) len (now (port .entry)) (now (plant .entry))) (now (bytes .entry)) (length (now (reply .entry))) .reply) (now (reply .entry)) ⌝ }
 {
-    if core.protocol == 1 {
-        return rtu_port::receive(held, settings, core, bytes, reply);
+    let protocol = port[PROTOCOL];
+    if protocol == 1 {
+        return rtu_port::receive(held, len, port, plant, bytes, reply);
     }
-    if core.protocol == 2 {
-        return ascii_port::receive(held, settings, core, bytes, reply);
+    if protocol == 2 {
+        return ascii_port::receive(held, len, port, plant, bytes, reply);
     }
-    nfo_port::receive(held, settings, core, bytes, reply)
+    nfo_port::receive(held, len, port, plant, bytes, reply)
 }

@@ -13,50 +13,52 @@ use Rattle.modbus.specs.Answer.{unitOf}
 use Rattle.modbus.proofs.Units.{unit-short}
 use Rattle.rtu.specs.Rtu.{frameHolds, addressIn, unitIn}
 use Rattle.rtu.proofs.Replies.{rtu-length}
-use Rattle.drive.specs.Plant.{plantOf}
+use Rattle.pending.specs.Held.{emptied}
+use Rattle.port.specs.Port.{Numbers}
+use Rattle.drive.specs.Plant.{Plant}
 use Rattle.modbus_service.specs.Reply.{exchangedIn, exchanged}
 use Rattle.modbus_service.specs.declared.Exchange.{Exchange}
 use Rattle.modbus_service.specs.declared.Reply.{Reply}
 use Rattle.modbus_service.specs.declared.Reply.the-variants.{Nothing, Data}
+use Rattle.card.specs.State.{cardOf}
 use Rattle.card.specs.declared.state.Card.{Card}
 use Rattle.card.specs.declared.outcome.Outcome.the-variants as Outcomes
-use Rattle.turn.specs.Turn.{Received, tooShort}
-use Rattle.turn.specs.Core.{cardOf, turnIn, shortIn, coreAfter}
-use Rattle.turn.specs.declared.Core.{Core}
-use Rattle.turn.specs.declared.CoreTurn.{CoreTurn}
+use Rattle.turn.specs.Turn.{Received, tooShort, portAfter, cardAfter}
+use Rattle.turn.specs.Turned.{turnIn, shortIn}
 use Rattle.turn.specs.declared.Turn.{Turn}
+use Rattle.turn.specs.declared.Turned.{Turned}
 use Rattle.turn.proofs.Laws.{Does, silent, after-in}
 use Rattle.rtu_port.specs.Receive.{exchangeOn, frameOf, spoilt, spoiltIn, taken, rtuReceived}
 
--- ---- a frame is taken: the arrays `held`, `words` are lent, and `words′` are the settings then
-module _ (held words words′ : List ℕ) (k after : Core) (frame unit : List ℕ) (address : ℕ) (e : Exchange) (n : ℕ) (out before : List ℕ)
-    (from : address ≡ addressIn frame) (has : unit ≡ unitIn frame)
-    (serves : exchangedIn words′ e ≡ exchanged (plantOf words (k .drive)) (k .sioerr) (k .station) address unit)
-    (puts : (n ≡ length (frameOf address (e .reply))) × (out ≡ front (frameOf address (e .reply)) before))
-    (leaves : after ≡ coreAfter k (e .done)) where
-  pub takes : Does (turnIn held words′ (record { core = after; outcome = Outcomes.Served (e .done .answer); used = length frame; len = n })) out
-      (taken (cardOf held words k) frame) before
-  takes = rw (← has, ← from, ← serves, leaves, puts .0, after-in held words held words′ (k .len) k (e .done)) (refl, puts .1)
+-- ---- a frame is taken: the plant and the port are `p′` and `q′` once it is served, and the port `q″` then
+module _ (held : List ℕ) (q q′ q″ : Numbers) (p p′ : Plant) (frame unit : List ℕ) (address : ℕ) (e : Exchange) (n : ℕ) (out before : List ℕ)
+    (from : address ≡ addressIn frame) (has : unit ≡ unitIn frame) (serves : exchangedIn p′ q′ e ≡ exchanged p q address unit)
+    (leaves : q″ ≡ portAfter (e .answer) q′)
+    (puts : (n ≡ length (frameOf address (e .reply))) × (out ≡ front (frameOf address (e .reply)) before)) where
+  pub takes : Does (turnIn held q″ p′ (record { pending = 0; outcome = Outcomes.Served (e .answer); used = length frame; len = n })) out
+      (taken (cardOf held 0 q p) frame) before
+  takes = rw (← has, ← from, ← serves, puts .0, after-in held 0 q″ (exchangedIn p′ q′ e .served) leaves) (refl, puts .1)
 
 -- ---- the whole call
-module _ (held words : List ℕ) (k : Core) (frame before : List ℕ) where
+module _ (held : List ℕ) (len : ℕ) (q : Numbers) (p : Plant) (frame before : List ℕ) where
   abbrev call : Received
-  call = rtuReceived (cardOf held words k) frame (length before)
+  call = rtuReceived (cardOf held len q p) frame (length before)
 
-  pub short : (r : CoreTurn) → length before < 19 → r ≡ shortIn k → Does (turnIn held words r) before call before
+  pub short : (r : Turned) → length before < 19 → r ≡ shortIn len → Does (turnIn held q p r) before call before
   unfolding rtuReceived
-  short r h e = simp (lt-ltb (length before) 19 h) (silent (turnIn held words r) (tooShort (cardOf held words k)) before refl (ap (turnIn held words) e))
+  short r h e = simp (lt-ltb (length before) 19 h) (silent (turnIn held q p r) (tooShort (cardOf held len q p)) before refl (ap (turnIn held q p) e))
 
-  pub spoils : (holds : Bool) (r : CoreTurn) → 19 ≤ length before → holds ≡ frameHolds frame → not holds ≡ true → r ≡ spoiltIn k (length frame)
-      → Does (turnIn held words r) before call before
+  pub spoils : (holds : Bool) (r : Turned) → 19 ≤ length before → holds ≡ frameHolds frame → not holds ≡ true → r ≡ spoiltIn len (length frame)
+      → Does (turnIn held q p r) before call before
   unfolding rtuReceived
   spoils holds r h d t e =
       simp (le-ltb (length before) 19 h, ← d, not-true holds t)
-      (silent (turnIn held words r) (spoilt (cardOf held words k) (length frame)) before refl (ap (turnIn held words) e))
+      (silent (turnIn held q p r) (spoilt (cardOf held len q p) (length frame)) before refl (ap (turnIn held q p) e))
 
+  -- what was pending does not matter to a frame that is taken
   pub holds-one : (holds : Bool) (r : Turn) (out : List ℕ) → 19 ≤ length before → holds ≡ frameHolds frame → not holds ≡ false
-      → Does r out (taken (cardOf held words k) frame) before → Does r out call before
-  unfolding rtuReceived
+      → Does r out (taken (cardOf held 0 q p) frame) before → Does r out call before
+  unfolding rtuReceived cardAfter emptied
   holds-one holds r out h d t e = simp (le-ltb (length before) 19 h, ← d, not-false holds t) e
 
 -- ---- what a caller may count on: the bytes used are there, one at least is used, and a reply has 9 bytes at most

@@ -10,12 +10,11 @@ use Rattle.modbus_service.specs.declared.Reply.{Reply}
 use Rattle.card.specs.declared.state.Card.{Card}
 use Rattle.card.specs.declared.outcome.Outcome.the-variants as Outcomes
 use Rattle.turn.specs.Turn.{Received, tooShort, answered}
-use Rattle.turn.specs.declared.Core.{Core}
-use Rattle.turn.specs.declared.CoreTurn.{CoreTurn}
+use Rattle.turn.specs.declared.Turned.{Turned}
 
 -- what a frame's data unit comes to, on this card
 abbrev pub exchangeOn : Card → List ℕ → Exchanged
-exchangeOn c frame = exchanged (c .plant) (c .port .sioerr) (c .station) (addressIn frame) (unitIn frame)
+exchangeOn c frame = exchanged (c .plant) (c .port .numbers) (addressIn frame) (unitIn frame)
 
 -- the reply's frame, from the request's address
 abbrev pub frameOf : ℕ → Reply → List ℕ
@@ -25,13 +24,13 @@ frameOf = sentBy rtuOf
 abbrev pub spoilt : Card → ℕ → Received
 spoilt c used = record { card = c; outcome = Outcomes.BadFrame; used = used; reply = [] }
 
--- the same of a core
-abbrev pub spoiltIn : Core → ℕ → CoreTurn
-spoiltIn k used = record { core = k; outcome = Outcomes.BadFrame; used = used; len = 0 }
+-- the same where the card's parts are lent
+abbrev pub spoiltIn : ℕ → ℕ → Turned
+spoiltIn pending used = record { pending = pending; outcome = Outcomes.BadFrame; used = used; len = 0 }
 
 -- length and CRC are right
 abbrev pub taken : Card → List ℕ → Received
-taken c frame = answered c (c .port .pending) (length frame) (exchangeOn c frame .served) (frameOf (addressIn frame) (exchangeOn c frame .reply))
+taken c frame = answered (c .port .pending) (length frame) (exchangeOn c frame .served) (frameOf (addressIn frame) (exchangeOn c frame .reply))
 
 -- "Order: 10 first, in every reply call; .. Modbus 11, 1 by address, .."
 unfoldable pub rtuReceived : Card → List ℕ → ℕ → Received

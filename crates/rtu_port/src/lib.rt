@@ -1,45 +1,47 @@
-// Modbus RTU on the card's port: `receive` takes one frame a call, serves its data unit and replies to it. The card's two arrays are lent, so that no
-// call copies them; the bytes pending stay as they are.
+// Modbus RTU on the card's port: `receive` takes one frame a call, serves its data unit and replies to it. The card's parts are lent where they lie.
 use card::Outcome;
+use drive::Plant;
 use modbus_service::Reply;
-use turn::Core;
-use turn::CoreTurn;
-use turn::core_after;
+use port::Numbers;
+use turn::Turned;
+use turn::after_message;
 use turn::short_buffer;
 ghost use mathlib.Core.Path.{_≡_};
 ghost use Prim.Native.Nat.{_≤_};
 ghost use lib.ListN.{length};
 ghost use Rattle.base.specs.Buffers.{front};
 ghost use Rattle.turn.specs.Turn.{turnOf};
-ghost use Rattle.turn.specs.Core.{cardOf, turnIn};
+ghost use Rattle.card.specs.State.{cardOf};
+ghost use Rattle.turn.specs.Turned.{turnIn};
 ghost use Rattle.rtu_port.specs.Receive.{frameOf, spoiltIn, taken, rtuReceived};
 
 // Reads a frame, serves its data unit, and puts the reply at the start of `reply`, which has 19 bytes at least. All bytes are used.
 pub fn receive(
     held: &[u8; 512],
-    settings: &mut [u32; 22],
-    core: Core,
+    len: usize,
+    port: &mut Numbers,
+    plant: &mut Plant,
     frame: &[u8],
     reply: &mut [u8],
-) -> CoreTurn
-    ensures turn { λ r. ⌜ turnIn (now (held .entry)) (now (settings .exit)) r ≡ turnOf (rtuReceived (cardOf (now (held .entry)) (now (settings .entry)) core) (now (frame .entry)) (length (now (reply .entry)))) ⌝ }
-    ensures lent { λ _. ⌜ now (reply .exit) ≡ front (rtuReceived (cardOf (now (held .entry)) (now (settings .entry)) core) (now (frame .entry)) (length (now (reply .entry))) .reply) (now (reply .entry)) ⌝ }
+) -> Turned
+    ensures turn { λ r. ⌜ turnIn (now (held .entry)) (now (port .exit)) (now (plant .exit)) r ≡ turnOf (rtuReceived (cardOf (now (held .entry)) len (now (port .entry)) (now (plant .entry))) (now (frame .entry)) (length (now (reply .entry)))) ⌝ }
+    ensures lent { λ _. ⌜ now (reply .exit) ≡ front (rtuReceived (cardOf (now (held .entry)) len (now (port .entry)) (now (plant .entry))) (now (frame .entry)) (length (now (reply .entry))) .reply) (now (reply .entry)) ⌝ }
 {
     if reply.len() < 19 {
-        return short_buffer(core);
+        return short_buffer(len);
     }
     if !rtu::frame_holds(frame) {
-        return bad_frame(core, frame.len());
+        return bad_frame(len, frame.len());
     }
-    take(held, settings, core, frame, reply)
+    take(held, port, plant, frame, reply)
 }
 
 // A frame whose length or CRC is wrong: nothing changes.
-fn bad_frame(core: Core, used: usize) -> CoreTurn
-    ensures { λ r. ⌜ r ≡ spoiltIn core used ⌝ }
+fn bad_frame(pending: usize, used: usize) -> Turned
+    ensures { λ r. ⌜ r ≡ spoiltIn pending used ⌝ }
 {
-    CoreTurn {
-        core,
+    Turned {
+        pending,
         outcome: Outcome::BadFrame,
         used,
         len: 0,
@@ -49,32 +51,24 @@ fn bad_frame(core: Core, used: usize) -> CoreTurn
 // A frame whose length and CRC are right: its data unit is served and replied to.
 fn take(
     held: &[u8; 512],
-    settings: &mut [u32; 22],
-    core: Core,
+    port: &mut Numbers,
+    plant: &mut Plant,
     frame: &[u8],
     reply: &mut [u8],
-) -> CoreTurn
+) -> Turned
     requires { ⌜ 19 ≤ length (now reply) ⌝ }
-    ensures turn { λ r. ⌜ turnIn (now (held .entry)) (now (settings .exit)) r ≡ turnOf (taken (cardOf (now (held .entry)) (now (settings .entry)) core) (now (frame .entry))) ⌝ }
-    ensures lent { λ _. ⌜ now (reply .exit) ≡ front (taken (cardOf (now (held .entry)) (now (settings .entry)) core) (now (frame .entry)) .reply) (now (reply .entry)) ⌝ }
+    ensures turn { λ r. ⌜ turnIn (now (held .entry)) (now (port .exit)) (now (plant .exit)) r ≡ turnOf (taken (cardOf (now (held .entry)) 0 (now (port .entry)) (now (plant .entry))) (now (frame .entry))) ⌝ }
+    ensures lent { λ _. ⌜ now (reply .exit) ≡ front (taken (cardOf (now (held .entry)) 0 (now (port .entry)) (now (plant .entry))) (now (frame .entry)) .reply) (now (reply .entry)) ⌝ }
 {
     let address = rtu::address_in(frame);
     let unit = rtu::unit_in(frame);
-    let exchange = modbus_service::serve(
-        settings,
-        core.drive,
-        core.sioerr,
-        core.station,
-        address,
-        unit,
-    );
-    let done = exchange.done;
-    let answer = done.answer;
+    let exchange = modbus_service::serve(plant, port, address, unit);
+    let answer = exchange.answer;
     let said = exchange.reply;
+    after_message(port, answer);
     let len = put(address, said, reply);
-    let after = core_after(core, done);
-    CoreTurn {
-        core: after,
+    Turned {
+        pending: 0,
         outcome: Outcome::Served(answer),
         used: frame.len(),
         len,

@@ -1,1 +1,3 @@
+pub mod Write
 pub mod Serving
+pub mod Cases

@@ -1,62 +1,30 @@
-// What serving a message does to the plant, by either protocol, and what it comes to.
-//
-// `keep` changes nothing, `tell` reads a row, `write` writes one where the plant permits it. The settings are lent, the drive is handed back.
+// What serving a message does, by either protocol, and what it comes to: `tell` reads a row, `write` writes one where that is permitted.
+mod changes;
+
 use answers::Answer;
-use drive::Drive;
+use drive::Plant;
 use permit::Permit;
+use port::Numbers;
 use table::Row;
 ghost use mathlib.Core.Path.{_≡_};
-ghost use Rattle.drive.specs.Plant.{plantOf};
-ghost use Rattle.service.specs.Serving.{servedIn, kept, toldServed, wroteServed};
-
-// The drive and SioErr after a message, and what it came to.
-pub struct Done {
-    pub drive: Drive,
-    pub sioerr: u32,
-    pub answer: Answer,
-}
-
-// Nothing changes.
-pub fn keep(drive: Drive, sioerr: u32, answer: Answer) -> Done
-    ensures { λ r. ⌜ r ≡ kept drive sioerr answer ⌝ }
-{
-    Done {
-        drive,
-        sioerr,
-        answer,
-    }
-}
+ghost use Rattle.service.specs.Write.{written};
+ghost use Rattle.service.specs.Serving.{toldServed, permitted};
 
 // A row is read, and tells its word.
-pub fn tell(settings: &[u32; 22], drive: Drive, sioerr: u32, row: Row) -> Done
-    ensures { λ r. ⌜ servedIn (now (settings .entry)) r ≡ toldServed (plantOf (now (settings .entry)) drive) sioerr row ⌝ }
+pub fn tell(plant: &mut Plant, port: &mut Numbers, row: Row) -> Answer
+    ensures { λ r. ⌜ record { plant = now (plant .exit); port = now (port .exit); answer = r } ≡ toldServed (now (plant .entry)) (now (port .entry)) row ⌝ }
 {
-    let told = reading::read(settings, drive, row, sioerr);
-    let after = told.drive;
-    Done {
-        drive: after,
-        sioerr: told.sioerr,
-        answer: Answer::Told(row, told.word),
-    }
+    Answer::Told(row, reading::read(plant, port, row))
 }
 
-// A row is written where the plant permits it. A refused write changes nothing.
-pub fn write(settings: &mut [u32; 22], drive: Drive, sioerr: u32, row: Row, word: u32) -> Done
-    ensures { λ r. ⌜ servedIn (now (settings .exit)) r ≡ wroteServed (plantOf (now (settings .entry)) drive) sioerr (row .0) word ⌝ }
+// A row is written where that is permitted. A refused write changes nothing.
+pub fn write(plant: &mut Plant, row: Row, word: u32) -> Answer
+    ensures plant { λ _. ⌜ now (plant .exit) ≡ written (now (plant .entry)) (row .0) word .plant ⌝ }
+    ensures answer { λ r. ⌜ r ≡ permitted (written (now (plant .entry)) (row .0) word .permit) ⌝ }
 {
-    let wrote = writing::write(settings, drive, row, word);
-    let permit = wrote.permit;
-    let after = wrote.drive;
+    let permit = changes::write(plant, row, word);
     match permit {
-        Permit::Write(change) => Done {
-            drive: after,
-            sioerr,
-            answer: Answer::Written(change),
-        },
-        Permit::Refused(refusal) => Done {
-            drive: after,
-            sioerr,
-            answer: Answer::Refused(refusal),
-        },
+        Permit::Write(change) => Answer::Written(change),
+        Permit::Refused(refusal) => Answer::Refused(refusal),
     }
 }

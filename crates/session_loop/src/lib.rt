@@ -1,10 +1,19 @@
 // The session of document 01's case 9, over any protocol: bytes from a port, a line on standard output for each message taken.
 //
-// No contract can say what is read and written. All between the two is in `report::serve`: the card after a call, its reply, and the text of its line.
+// No contract can say what is read and written. All between the two is promised: by `serve` the card after a call, its reply and the text of its line, and by
+// `serve_all` the card after the calls on what one read hands over.
+mod call;
+mod line;
+
+use call::serve;
 use card::Card;
 use card::Protocol;
+use drive::Plant;
 use libc::STDOUT_FILENO;
+use port::Numbers;
 ghost use mathlib.Core.Path.{_≡_};
+ghost use Rattle.card.specs.State.{cardOf};
+ghost use Rattle.session_loop.specs.Handed.{Handed};
 
 // Where replies go, beside the lines: to nobody, or to a descriptor.
 pub enum Replies {
@@ -12,59 +21,62 @@ pub enum Replies {
     Sent(i32),
 }
 
-// Reads the port to its end, from a fresh card on. Each reply and each line is written as soon as the last byte of its message was read.
-pub fn run(protocol: Protocol, port: i32, replies: Replies)
+// Reads the port to its end, from a fresh card on. Each reply and each line is written as soon as the last byte of its message was read. What one read hands
+// over is a scrap of a stream, or for Modbus RTU a frame: silence ends a read there.
+pub fn run(protocol: Protocol, from: i32, replies: Replies)
     ensures { λ r. ⌜ r ≡ tt ⌝ }
 {
-    let mut card = Card::start(protocol);
+    let card = Card::start(protocol);
+    let line = card.port;
+    let pending = line.pending;
+    let mut held = pending.bytes;
+    let mut port = line.numbers;
+    let mut plant = card.plant;
+    let mut len = pending.len;
+    let mut scrap = io::buffer();
     let mut turns = u64::MAX;
     while turns > 0 {
-        let got = read_some(card, port, replies);
-        if !got.more {
+        let got = libc::read(from, &mut scrap);
+        if got <= 0 {
             return;
         }
-        let next = got.card;
-        card = next;
+        let n = io::count(got, &scrap);
+        len = serve_all(&mut held, len, &mut port, &mut plant, &scrap[..n], replies);
         turns -= 1;
     }
 }
 
-// The card after a read, and whether there was one.
-struct Got {
-    card: Card,
-    more: bool,
-}
-
-// What one read hands over is a scrap of a stream, or for Modbus RTU a frame: silence ends a read there.
-fn read_some(card: Card, port: i32, replies: Replies) -> Got {
-    let mut scrap = io::buffer();
-    let got = libc::read(port, &mut scrap);
-    if got <= 0 {
-        return Got { card, more: false };
-    }
-    let n = io::count(got, &scrap);
-    let next = serve_all(card, &scrap[..n], replies);
-    Got {
-        card: next,
-        more: true,
-    }
-}
-
-// Each call is given the bytes that the one before did not use. Of a frame a call uses all.
-fn serve_all(card: Card, scrap: &[u8], replies: Replies) -> Card {
-    let mut c = card;
+// Hands the scrap over, call by call: each is given the bytes that the one before did not use. Of a frame a call uses all. Tells how many bytes are pending then.
+fn serve_all(
+    held: &mut [u8; 512],
+    len: usize,
+    port: &mut Numbers,
+    plant: &mut Plant,
+    scrap: &[u8],
+    replies: Replies,
+) -> usize
+    ensures { λ r. ⌜ Handed (cardOf (now (held .entry)) len (now (port .entry)) (now (plant .entry))) (now (scrap .entry)) (cardOf (now (held .exit)) r (now (port .exit)) (now (plant .exit))) ⌝ }
+{
+    let mut reply = [0u8; 64];
+    let mut text = [0u8; 64];
+    let mut pending = len;
     let mut at: usize = 0;
     while at < scrap.len() {
-        let mut reply = [0u8; 64];
-        let mut text = [0u8; 64];
-        let t = report::serve(c, &scrap[at..], &mut reply, &mut text);
+        let t = serve(
+            held,
+            pending,
+            port,
+            plant,
+            &scrap[at..],
+            &mut reply,
+            &mut text,
+        );
         send(replies, &reply, t.reply);
         write(STDOUT_FILENO, &text, t.line);
         at += t.used;
-        let next = t.card;
-        c = next;
+        pending = t.pending;
     }
-    c
+    pending
 }
 
 fn send(replies: Replies, reply: &[u8; 64], len: usize) {

@@ -4,24 +4,25 @@ use mathlib.Core.List.{List}
 use Prim.Native.Nat.{ℕ, _+_, _-_, _≤_, _<_}
 use native.Mathlib.Omega.{arith}
 use lib.ListN.{length, take, drop, length-take, length-drop}
+use Rattle.port.specs.Port.{Numbers}
+use Rattle.drive.specs.Plant.{Plant}
+use Rattle.card.specs.declared.state.Card.{Card}
 use Rattle.turn.specs.Turn.{turnOf}
-use Rattle.turn.specs.Core.{cardOf, turnIn}
-use Rattle.turn.specs.declared.Core.{Core}
+use Rattle.turn.specs.Turned.{turnIn}
 use Rattle.turn.specs.declared.Turn.{Turn}
-use Rattle.turn.specs.declared.CoreTurn.{CoreTurn}
+use Rattle.turn.specs.declared.Turned.{Turned}
 use Rattle.receive.specs.Receive.{received}
 use Rattle.receive.proofs.Laws.{received-used, received-uses}
 
-module _ (held words held′ words′ : List ℕ) (k : Core) (bytes : List ℕ) (room : ℕ) (t : CoreTurn)
-    (turns : turnIn held′ words′ t ≡ turnOf (received (cardOf held words k) bytes room)) where
-  same-used : t .used ≡ received (cardOf held words k) bytes room .used
+module _ (c : Card) (bytes : List ℕ) (room : ℕ) (held : List ℕ) (q : Numbers) (p : Plant) (t : Turned) (turns : turnIn held q p t ≡ turnOf (received c bytes room)) where
+  same-used : t .used ≡ received c bytes room .used
   same-used = ap (λ (x : Turn). x .used) turns
 
   pub used-within : t .used ≤ length bytes
-  used-within = omega (arith, same-used, received-used (cardOf held words k) bytes room)
+  used-within = omega (arith, same-used, received-used c bytes room)
 
   pub used-some : 19 ≤ room → 0 < length bytes → 0 < t .used
-  used-some h l = omega (arith, same-used, received-uses (cardOf held words k) bytes room h l)
+  used-some h l = omega (arith, same-used, received-uses c bytes room h l)
 
 -- a round comes nearer to the end of the workload
 pub piece-less : (bytes : List ℕ) (at end used : ℕ) → at < end → end ≤ length bytes → (0 < length (take (end - at) (drop at bytes)) → 0 < used)

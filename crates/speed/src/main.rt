@@ -14,7 +14,6 @@ use libc::STDOUT_FILENO;
 use protocols::Named;
 use rounds::Tally;
 use rounds::round;
-use turn::core_of;
 use workload::Number;
 use workload::number_of;
 use workload::read_lines;
@@ -51,21 +50,19 @@ fn print(word: &[u8], rounds: u64, bytes: usize, tally: Tally) {
 // The rounds over a workload, from a fresh card on.
 fn run(protocol: Protocol, rounds: u64, bytes: &[u8], ends: &[usize; 4096]) -> Tally {
     let card = Card::start(protocol);
-    let port = card.port;
-    let pending = port.pending;
-    let plant = card.plant;
-    let start = plant.settings;
+    let line = card.port;
+    let pending = line.pending;
     let mut held = pending.bytes;
-    let mut settings = start.words;
-    let core = core_of(card);
+    let mut port = line.numbers;
+    let mut plant = card.plant;
     let mut tally = Tally {
-        core,
+        pending: pending.len,
         sum: 0,
         taken: 0,
     };
     let mut left = rounds;
     while left > 0 {
-        let next = round(&mut held, &mut settings, tally, bytes, ends);
+        let next = round(&mut held, &mut port, &mut plant, tally, bytes, ends);
         tally = next;
         left -= 1;
     }

@@ -1,13 +1,15 @@
 // Rounds over a workload, in memory: its pieces go to the card one after another, the unused rest of a piece again at once.
-use turn::Core;
+use drive::Plant;
+use port::Numbers;
+use port::PROTOCOL;
 ghost use mathlib.Core.Path.{_≡_};
 ghost use Prim.Native.Nat.{_<_, _≤_};
 ghost use lib.ListN.{length};
 ghost use Rattle.speed.specs.Sum.{mixed};
 
-// The card's core, the sum over all calls, and how many messages were taken.
+// How many bytes are pending, the sum over all calls, and how many messages were taken.
 pub(crate) struct Tally {
-    pub(crate) core: Core,
+    pub(crate) pending: usize,
     pub(crate) sum: u32,
     pub(crate) taken: u64,
 }
@@ -15,21 +17,21 @@ pub(crate) struct Tally {
 // One round over the workload's bytes. A piece is 7 bytes of a stream, the last one shorter, or for Modbus RTU a frame, up to its end in `ends`.
 pub(crate) fn round(
     held: &mut [u8; 512],
-    settings: &mut [u32; 22],
+    port: &mut Numbers,
+    plant: &mut Plant,
     tally: Tally,
     bytes: &[u8],
     ends: &[usize; 4096],
 ) -> Tally {
     let mut reply = [0u8; 19];
     let mut t = tally;
-    let core = t.core;
-    let rtu = core.protocol == 1;
+    let rtu = port[PROTOCOL] == 1;
     let mut at: usize = 0;
     let mut end: usize = 0;
     let mut k: usize = 0;
     while at < bytes.len() {
         end = piece_end(end, rtu, ends[k], at, bytes.len());
-        let c = call(held, settings, t, &bytes[at..end], &mut reply);
+        let c = call(held, port, plant, t, &bytes[at..end], &mut reply);
         at += c.used;
         k = (k + 1) % 4096;
         let next = c.tally;
@@ -47,7 +49,8 @@ struct Called {
 // One call on a piece, or on the rest of it.
 fn call(
     held: &mut [u8; 512],
-    settings: &mut [u32; 22],
+    port: &mut Numbers,
+    plant: &mut Plant,
     tally: Tally,
     bytes: &[u8],
     reply: &mut [u8; 19],
@@ -55,13 +58,12 @@ fn call(
     ensures within { λ r. ⌜ r .used ≤ length (now (bytes .entry)) ⌝ }
     ensures some { λ r. ⌜ (0 < length (now (bytes .entry)) → 0 < r .used) ⌝ }
 {
-    let t = receive::receive_in(held, settings, tally.core, bytes, reply);
+    let t = receive::receive_in(held, tally.pending, port, plant, bytes, reply);
     let outcome = t.outcome;
     let number = outcome.number();
-    let core = t.core;
     Called {
         tally: Tally {
-            core,
+            pending: t.pending,
             sum: add_call(tally.sum, number, t.used, t.len),
             taken: add_taken(tally.taken, number),
         },

@@ -1,13 +1,14 @@
 -- Searching the table: where no row passes, where two tests pass the same rows, and the row of a span. Assumes nothing.
 use mathlib.Core.Path.{_≡_, refl, sym, ap, _∙_}
 use mathlib.Core.Bool.{Bool, true, false}
-use mathlib.Core.List.{List, [], _∷_, _++_}
+use mathlib.Core.List.{List, [], _∷_}
 use Prim.Native.Nat.{ℕ, zero, suc, _+_, _-_, _*_, _/_, _%_, _≤_, _<_}
 use native.Mathlib.Omega.{arith}
 use borrow.Author.Tests.{eq-eqb, ne-eqb, eqb-true, eqb-false, leb-true, ltb-true, ltb-false}
 use lib.Dec.{eqb, leb, ltb}
-use Rattle.base.specs.Choice.{pick, both}
-use Rattle.base.proofs.Tests.{both-out, same-test}
+use Rattle.base.specs.Choice.{pick, both, either}
+use mathlib.Core.Logic.{_⊎_, inl, inr, ⊎-elim}
+use Rattle.base.proofs.Tests.{both-out, either-out, not-both, same-test}
 use Rattle.table.specs.Table.{Parameter, E, no-E, Place, ADI, register, Entry, rows, lineAt}
 use Rattle.table.specs.Address.{address, firstRegister, adiOf}
 use Rattle.table.specs.Find.{firstRow, hasE, hasAdi, rowOfE, rowOfAdi, rowFrom, rowOfSpan}
@@ -18,7 +19,7 @@ use Rattle.table.specs.declared.labels.FirstOf.the-variants.{Adi, NoAdi}
 use Rattle.table.specs.declared.labels.Found.{Found}
 use Rattle.table.specs.declared.labels.Found.the-variants.{At, NoRow}
 use Rattle.table.proofs.Apart.{every, pairwise, apart, apart-out, all-apart}
-use Rattle.base.proofs.Arms.{NoneOf, upFrom}
+use Rattle.base.proofs.Arms.{NoneOf}
 
 -- ---- a number that is no row's label
 -- the labels of one kind, in the table's order; `add` puts a row's label, if it has one, before the others
@@ -32,6 +33,33 @@ unfolding firstRow
 none-found test add miss n [] h = refl
 none-found test add miss n (x ∷ xs) h = let m = miss n x (labels add xs) h in simp (m .0) (none-found test add miss n xs (m .1))
 
+-- n is one of the keys
+abbrev pub among : ℕ → List ℕ → Bool
+among n [] = false
+among n (k ∷ ks) = either (eqb n k) (among n ks)
+
+-- each label from lo on and below hi is one of the keys
+abbrev pub keyed : ℕ → ℕ → List ℕ → List ℕ → Bool
+keyed lo hi keys [] = true
+keyed lo hi keys (k ∷ ks) = both (either (ltb k lo) (either (among k keys) (leb hi k))) (keyed lo hi keys ks)
+
+not-among : (n : ℕ) (keys : List ℕ) → NoneOf n keys → among n keys ≡ true → ⊥
+not-among n [] h e = not-both refl (sym e)
+not-among n (k ∷ ks) h e = ⊎-elim (λ t. h .0 (eqb-true n k t)) (λ t. not-among n ks (h .1) t) (either-out (eqb n k) (among n ks) e)
+
+-- so a number there that is none of the keys is no label
+no-label : (lo hi n : ℕ) (keys ks : List ℕ) → lo ≤ n → n < hi → NoneOf n keys → keyed lo hi keys ks ≡ true → NoneOf n ks
+no-label lo hi n keys [] l u h e = tt
+no-label lo hi n keys (k ∷ ks) l u h e =
+    let p = both-out (either (ltb k lo) (either (among k keys) (leb hi k))) (keyed lo hi keys ks) e in
+    (other (p .0), no-label lo hi n keys ks l u h (p .1))
+  where
+    other : either (ltb k lo) (either (among k keys) (leb hi k)) ≡ true → n ≡ k → ⊥
+    other t q = ⊎-elim
+        (λ s. omega (arith, ltb-true k lo s))
+        (λ s. ⊎-elim (λ v. not-among n keys h (rw q v)) (λ v. omega (arith, leb-true hi k v)) (either-out (among k keys) (leb hi k) s))
+        (either-out (ltb k lo) (either (among k keys) (leb hi k)) t)
+
 abbrev pub addE : Parameter → List ℕ → List ℕ
 addE (E n) ks = n ∷ ks
 addE no-E ks = ks
@@ -40,9 +68,12 @@ missE : (n : ℕ) (p : Parameter) (ks : List ℕ) → NoneOf n (addE p ks) → (
 missE n (E m) ks h = (ne-eqb m n (λ q. h .0 (sym q)), h .1)
 missE n no-E ks h = (refl, h)
 
-pub no-e : (n : ℕ) → NoneOf n (labels (λ (x : Entry). addE (x .parameter)) rows) → NoRow ≡ rowOfE n
+-- no row has the E number n, where n is from lo on, below hi, and none of the E numbers there
+pub no-e : (lo hi n : ℕ) (keys : List ℕ) → keyed lo hi keys (labels (λ (x : Entry). addE (x .parameter)) rows) ≡ true → lo ≤ n → n < hi → NoneOf n keys → NoRow ≡ rowOfE n
 unfolding rowOfE
-no-e n h = none-found (λ n x. hasE n (x .parameter)) (λ x. addE (x .parameter)) (λ n x. missE n (x .parameter)) n rows h
+no-e lo hi n keys e l u h =
+    none-found (λ n x. hasE n (x .parameter)) (λ x. addE (x .parameter)) (λ n x. missE n (x .parameter)) n rows
+    (no-label lo hi n keys (labels (λ x. addE (x .parameter)) rows) l u h e)
 
 abbrev pub addAdi : Place → List ℕ → List ℕ
 addAdi (ADI n) ks = n ∷ ks
@@ -52,26 +83,22 @@ missAdi : (n : ℕ) (p : Place) (ks : List ℕ) → NoneOf n (addAdi p ks) → (
 missAdi n (ADI m) ks h = (ne-eqb m n (λ q. h .0 (sym q)), h .1)
 missAdi n (register r) ks h = (refl, h)
 
-no-adi : (n : ℕ) → NoneOf n (labels (λ (x : Entry). addAdi (x .place)) rows) → NoRow ≡ rowOfAdi n
+-- the same of the ADI number n
+pub no-adi : (lo hi n : ℕ) (keys : List ℕ) → keyed lo hi keys (labels (λ (x : Entry). addAdi (x .place)) rows) ≡ true → lo ≤ n → n < hi → NoneOf n keys → NoRow ≡ rowOfAdi n
 unfolding rowOfAdi
-no-adi n h = none-found (λ n x. hasAdi n (x .place)) (λ x. addAdi (x .place)) (λ n x. missAdi n (x .place)) n rows h
+no-adi lo hi n keys e l u h =
+    none-found (λ n x. hasAdi n (x .place)) (λ x. addAdi (x .place)) (λ n x. missAdi n (x .place)) n rows
+    (no-label lo hi n keys (labels (λ x. addAdi (x .place)) rows) l u h e)
 
--- a number outside of k numbers from i on is none of them
-outside : (n i k : ℕ) (ks : List ℕ) → ((j : ℕ) → i ≤ j → j < i + k → n ≡ j → ⊥) → NoneOf n ks → NoneOf n (upFrom i k ++ ks)
-outside n i zero ks o h = h
-outside n i (suc k) ks o h = (o i (omega arith) (omega arith), outside n (suc i) k ks (λ j l u. o j (omega arith) (omega arith)) h)
-
--- the ADI numbers below 301, and 323
+-- the ADI numbers but 301 to 322
 abbrev pub others : List ℕ
 others = 34 ∷ 35 ∷ 38 ∷ 323 ∷ 125 ∷ 120 ∷ 39 ∷ []
 
-pub no-adi-below : (n : ℕ) → n < 301 → NoneOf n others → NoRow ≡ rowOfAdi n
+-- a number outside of 301 to 322 that is none of them is no row's
+pub no-adi-outside : (n : ℕ) → (n < 301) ⊎ (323 ≤ n) → NoneOf n others → NoRow ≡ rowOfAdi n
 unfolding rows
-no-adi-below n l h = no-adi n (outside n 301 22 others (λ j a b e. omega arith) h)
-
-pub no-adi-above : (n : ℕ) → 323 ≤ n → NoneOf n others → NoRow ≡ rowOfAdi n
-unfolding rows
-no-adi-above n l h = no-adi n (outside n 301 22 others (λ j a b e. omega arith) h)
+no-adi-outside n (inl l) h = no-adi 0 301 n others refl (omega arith) l h
+no-adi-outside n (inr l) h = no-adi 323 (suc n) n others refl l (omega arith) h
 
 -- ---- the address rule, read backwards
 pub adi-some : (r : ℕ) (a : AdiNumber) → adiOf r ≡ Adi a → (1 ≤ a .0) × (r ≡ address (a .0))
@@ -124,12 +151,15 @@ nothing-passes [] = refl
 nothing-passes (x ∷ xs) = nothing-passes xs
 
 -- the register that is an ADI number's address leads to that number's row
-pub from-adi : (r : ℕ) (g : FirstOf) (a : AdiNumber) (f : Found) → (r ≡ 0x02A5 → ⊥) → g ≡ adiOf r → g ≡ Adi a → f ≡ rowOfAdi (a .0) → f ≡ rowFrom r
+pub from-adi : (r : ℕ) (g : FirstOf) (a : AdiNumber) (f : Found) → g ≡ adiOf r → g ≡ Adi a → f ≡ rowOfAdi (a .0) → f ≡ rowFrom r
 unfolding rowOfAdi rowFrom firstRegister address
-from-adi r g a f n d e q = q ∙ same-rows (hasAdi (a .0)) (λ (p : Place). eqb (firstRegister p) r) same rows all-fine
+from-adi r g a f d e q = q ∙ same-rows (hasAdi (a .0)) (λ (p : Place). eqb (firstRegister p) r) same rows all-fine
   where
     k : (1 ≤ a .0) × (r ≡ address (a .0))
     k = adi-some r a (sym d ∙ e)
+
+    n : r ≡ 0x02A5 → ⊥
+    n y = omega (arith, k .0, k .1)
 
     same : (p : Place) → fine p ≡ true → hasAdi (a .0) p ≡ eqb (firstRegister p) r
     same (ADI m) h =

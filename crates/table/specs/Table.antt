@@ -2,7 +2,7 @@
 use mathlib.Core.Path.{_≡_, refl}
 use mathlib.Core.List.{List, [], _∷_, map}
 use Prim.Native.Nat.{ℕ}
-use lib.ListN.{length, getD, take}
+use lib.ListN.{length, getD}
 use lib.IntN.{ℤ, pos, negℤ}
 use Rattle.table.specs.Names.{P-Nom, U-Nom, f-Nom, N-Nom, cosφ, I-magn, I-limt, Accel, Retard, Mode, Fr-Min, Fr-Max, R-fix1, RegAmp, SiBaud, SiProt, SiAdr, SioTot, MbAdr, SpdScl-num, SpdScl-den, Setpoint, MODE, SCMD, Inv-St-ack, Inv-St, SioErr, FrqAct, I-rms, OpTime, rowCount}
 use Rattle.table.specs.declared.lines.Allowed.{Allowed}
@@ -116,6 +116,6 @@ abbrev pub word : Start → ℕ
 word (Word w) = w
 word NoWord = 0
 
--- the start words of rows 301 to 322
+-- the column Start, a word for each row; where there is none, 0 stands
 unfoldable pub startWords : List ℕ
-startWords = take 22 (map (λ (r : Entry). word (r .line .start)) rows)
+startWords = map (λ (r : Entry). word (r .line .start)) rows

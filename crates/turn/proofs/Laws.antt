@@ -1,5 +1,5 @@
 -- A stream call, case by case, for any protocol that comes as a stream. Assumes nothing.
-use mathlib.Core.Path.{_≡_, refl, sym, ap}
+use mathlib.Core.Path.{_≡_, refl, sym, ap, _∙_}
 use mathlib.Core.Bool.{true, false, not}
 use mathlib.Core.List.{List, []}
 use Prim.Native.Nat.{ℕ, _+_, _≤_, _<_}
@@ -14,15 +14,17 @@ use Rattle.pending.specs.Held.{emptied}
 use Rattle.pending.specs.Scanning.{Scan, scanFrom, scanIn}
 use Rattle.pending.specs.declared.Scanned.{Scanned}
 use Rattle.pending.proofs.Scans.{scan-used, scan-uses}
+use Rattle.port.specs.Port.{Numbers}
+use Rattle.drive.specs.Plant.{Plant}
+use Rattle.answers.specs.declared.Answer.{Answer}
+use Rattle.service.specs.Serving.{Served}
+use Rattle.card.specs.State.{cardOf}
 use Rattle.card.specs.declared.state.Card.{Card}
-use Rattle.service.specs.declared.Done.{Done}
-use Rattle.service.specs.Serving.{servedIn}
-use Rattle.turn.specs.Turn.{Received, turnOf, tooShort, waiting, cardAfter}
-use Rattle.turn.specs.Core.{cardOf, turnIn, shortIn, waitingIn, coreAfter}
+use Rattle.turn.specs.Turn.{Received, turnOf, tooShort, waiting, portAfter, cardAfter}
+use Rattle.turn.specs.Turned.{turnIn, shortIn, waitingIn}
 use Rattle.turn.specs.Stream.{Stream, taken, streamed}
 use Rattle.turn.specs.declared.Turn.{Turn}
-use Rattle.turn.specs.declared.Core.{Core}
-use Rattle.turn.specs.declared.CoreTurn.{CoreTurn}
+use Rattle.turn.specs.declared.Turned.{Turned}
 
 -- what a call hands back, and the reply buffer after it, are those of r
 abbrev pub Does : Turn → List ℕ → Received → List ℕ → Type 0
@@ -32,32 +34,31 @@ Does turn out r before = (turn ≡ turnOf r) × (out ≡ front (r .reply) before
 pub silent : (turn : Turn) (r : Received) (before : List ℕ) → r .reply ≡ [] → turn ≡ turnOf r → Does turn before r before
 silent turn r before n e = (e, rw n (sym (front-none before)))
 
--- ---- a card whose arrays are lent, `held` and `words`, and its core k: each kind of turn is the one of the whole card
-module _ (S : Stream) (held words : List ℕ) (k : Core) (bytes before : List ℕ) where
+-- ---- a card whose parts are lent: each kind of turn is the one of the whole card
+module _ (S : Stream) (held : List ℕ) (len : ℕ) (q : Numbers) (p : Plant) (bytes before : List ℕ) where
   abbrev call : Received
-  call = streamed S (cardOf held words k) bytes (length before)
+  call = streamed S (cardOf held len q p) bytes (length before)
 
   -- "A reply buffer under 19 bytes is 10, with no byte used"
-  pub short : (r : CoreTurn) → length before < 19 → r ≡ shortIn k → Does (turnIn held words r) before call before
-  short r h e = simp (lt-ltb (length before) 19 h) (silent (turnIn held words r) (tooShort (cardOf held words k)) before refl (ap (turnIn held words) e))
+  pub short : (r : Turned) → length before < 19 → r ≡ shortIn len → Does (turnIn held q p r) before call before
+  short r h e = simp (lt-ltb (length before) 19 h) (silent (turnIn held q p r) (tooShort (cardOf held len q p)) before refl (ap (turnIn held q p) e))
 
   -- what the scan leaves in the array
   module _ (left : List ℕ) (scan : Scanned) (h : 19 ≤ length before)
-      (d : scanIn left scan ≡ scanFrom (S .feeding) (record { bytes = held; len = k .len }) 0 bytes) where
-    pub waits : (r : CoreTurn) → not (scan .taken) ≡ true → r ≡ waitingIn k scan → Does (turnIn left words r) before call before
+      (d : scanIn left scan ≡ scanFrom (S .feeding) (record { bytes = held; len = len }) 0 bytes) where
+    pub waits : (r : Turned) → not (scan .taken) ≡ true → r ≡ waitingIn scan → Does (turnIn left q p r) before call before
     unfolding waiting
     waits r t e =
         simp (le-ltb (length before) 19 h, ← d, not-true (scan .taken) t)
-        (silent (turnIn left words r) (waiting (cardOf held words k) (scanIn left scan)) before refl (ap (turnIn left words) e))
+        (silent (turnIn left q p r) (waiting (cardOf held len q p) (scanIn left scan)) before refl (ap (turnIn left q p) e))
 
-    pub takes : (r : Turn) (out : List ℕ) → not (scan .taken) ≡ false → Does r out (taken S (cardOf held words k) (scanIn left scan)) before → Does r out call before
+    pub takes : (r : Turn) (out : List ℕ) → not (scan .taken) ≡ false → Does r out (taken S (cardOf held len q p) (scanIn left scan)) before → Does r out call before
     takes r out t e = simp (le-ltb (length before) 19 h, ← d, not-false (scan .taken) t) e
 
--- the core once a message was served, with the arrays then, is the card then
-pub after-in : (held words left after : List ℕ) (n : ℕ) (k : Core) (done : Done)
-    → cardOf left after (coreAfter k done) ≡ cardAfter (cardOf held words k) (record { bytes = left; len = n }) (servedIn after done)
+-- a message was served: the parts of the card then, with nothing pending, are the card then
+pub after-in : (held : List ℕ) (n : ℕ) (q : Numbers) (s : Served) → q ≡ portAfter (s .answer) (s .port) → cardOf held 0 q (s .plant) ≡ cardAfter (record { bytes = held; len = n }) s
 unfolding cardAfter emptied
-after-in held words left after n k done = refl
+after-in held n q s e = rw e
 
 -- ---- the bytes used: none that is not there, and one at least where there is one and the buffer is no shorter than 19
 module _ (S : Stream) (c : Card) (bytes : List ℕ) (room : ℕ) where
@@ -81,3 +82,7 @@ module _ (S : Stream) (c : Card) (bytes : List ℕ) (room : ℕ) where
   streamed-short most all =
       pick-both (λ (r : Received). length (r .reply) ≤ most) (ltb room 19) (λ e. omega arith)
       (λ e. pick-both (λ (r : Received). length (r .reply) ≤ most) (scanFrom (S .feeding) (c .port .pending) 0 bytes .taken) (λ k. all (scanFrom (S .feeding) (c .port .pending) 0 bytes)) (λ k. omega arith))
+
+-- an arm of a `match` on the answer
+pub after-at : (q r : Numbers) (answer k : Answer) → answer ≡ k → r ≡ portAfter k q → r ≡ portAfter answer q
+after-at q r answer k h e = e ∙ ap (λ (a : Answer). portAfter a q) (sym h)

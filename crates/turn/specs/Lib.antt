@@ -1,3 +1,3 @@
-pub mod Core
+pub mod Turned
 pub mod Stream
 pub mod Turn

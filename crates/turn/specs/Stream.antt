@@ -17,7 +17,7 @@ pub record Stream : Type 0 where
 
 -- the first message is taken: it is held
 abbrev pub taken : Stream → Card → Scan → Received
-taken S c scan = answered c (scan .pending) (scan .used) (S .served c (scan .pending)) (S .reply c (scan .pending))
+taken S c scan = answered (scan .pending) (scan .used) (S .served c (scan .pending)) (S .reply c (scan .pending))
 
 abbrev pub byScan : Stream → Card → Scan → Received
 byScan S c scan = pick (scan .taken) (taken S c scan) (waiting c scan)

@@ -8,7 +8,8 @@ use Rattle.pending.specs.Held.{emptied}
 use Rattle.answers.specs.declared.Answer.{Answer}
 use Rattle.answers.specs.declared.Answer.the-variants.{Told, Written, NotOurs, Refused}
 use Rattle.service.specs.Serving.{Served}
-use Rattle.card.specs.State.{withPort, withPending}
+use Rattle.port.specs.Port.{Numbers, withSum}
+use Rattle.card.specs.State.{withPending}
 use Rattle.card.specs.declared.state.Card.{Card}
 use Rattle.card.specs.declared.outcome.Outcome.{Outcome}
 use Rattle.card.specs.declared.outcome.Outcome.the-variants as Outcomes
@@ -31,25 +32,20 @@ tooShort c = record { card = c; outcome = Outcomes.ShortBuffer; used = 0; reply 
 
 -- "15: nothing taken, bytes pending or dropped"
 unfoldable pub waiting : Card → Scan → Received
-waiting c scan = record { card = withPort (withPending (scan .pending) (c .port)) c; outcome = Outcomes.NothingTaken; used = scan .used; reply = [] }
+waiting c scan = record { card = withPending (scan .pending) c; outcome = Outcomes.NothingTaken; used = scan .used; reply = [] }
 
 -- ---- a message is served
--- "the sum since .. the last taken message of outcome other than 1 or 11"
-abbrev pub sumAfter : Answer → ℕ → ℕ
-sumAfter (Told row word) sum = 0
-sumAfter (Written change) sum = 0
-sumAfter NotOurs sum = sum
-sumAfter (Refused refusal) sum = 0
+-- "the sum since .. the last taken message of outcome other than 1 or 11": any other restarts it
+abbrev pub portAfter : Answer → Numbers → Numbers
+portAfter (Told row word) q = withSum 0 q
+portAfter (Written change) q = withSum 0 q
+portAfter NotOurs q = q
+portAfter (Refused refusal) q = withSum 0 q
 
 -- "what is pending after a taken message is empty"
-unfoldable pub cardAfter : Card → Pending → Served → Card
-cardAfter c held s =
-    record {
-      port = record { pending = emptied held; protocol = c .port .protocol; sum = sumAfter (s .answer) (c .port .sum); sioerr = s .sioerr };
-      plant = s .plant;
-      station = c .station;
-    }
+unfoldable pub cardAfter : Pending → Served → Card
+cardAfter held s = record { port = record { pending = emptied held; numbers = portAfter (s .answer) (s .port) }; plant = s .plant }
 
 -- "Each outcome carries what was done or the reason"
-abbrev pub answered : Card → Pending → ℕ → Served → List ℕ → Received
-answered c held used s reply = record { card = cardAfter c held s; outcome = Outcomes.Served (s .answer); used = used; reply = reply }
+abbrev pub answered : Pending → ℕ → Served → List ℕ → Received
+answered held used s reply = record { card = cardAfter held s; outcome = Outcomes.Served (s .answer); used = used; reply = reply }

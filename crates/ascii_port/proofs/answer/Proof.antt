@@ -5,7 +5,11 @@ use Rattle.ascii_port.proofs.answer.Statement.{statement}
 use Rattle.ascii_port.proofs.answer.Tie as tie
 
 returns : tie.Need-returns
-returns c = answers (c .before .before .before .before .before .before .before .before .before .before .before .before .args .held .now) (c .before .before .before .before .before .before .before .before .before .before .before .before .args .settings .now) _ (c .before .before .before .before .before .before .before .before .before .before .before .before .args .core) _ (c .before .before .before .before .before .before .before .before .before .before .before .before .args .scan) (c .before .before .before .before .before .before .before .before .before .before .before .before .args .message .now) _ _ (c .before .before .before .before .before .before .serve .result) _ _ (c .before .before .before .before .before .before .before .before .before .before .before .before .args .reply .now) (c .before .before .before .before .before .before .before .before .before .byte-at .ensures) (c .before .before .before .before .before .before .before .before .unit-among .ensures) (c .before .before .before .before .before .before .serve .ensures) (c .before .before .before .put .ensures) (c .core-after .ensures)
+returns c =
+    let a = c .before .before .before .before .before .before .before .before .before .before .before .before .before .args in
+    answers (a .held .now) (a .port .now) _ _ (a .plant .now) _ (a .scan) (a .message .now) _ _ (c .before .before .before .before .before .before .serve .result) _ _ (a .reply .now)
+    (c .before .before .before .before .before .before .before .before .before .before .byte-at .ensures) (c .before .before .before .before .before .before .before .before .before .unit-among .ensures) (c .before .before .before .before .before .before .serve .ensures)
+    (c .before .before .before .before .after-message .ensures) (c .before .before .put .ensures)
 
 pub answer-spec : {M : Type 1} → statement M
 answer-spec =

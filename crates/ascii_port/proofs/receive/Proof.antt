@@ -1,6 +1,5 @@
 -- `ascii_port::receive` meets its contract: a short buffer, nothing taken, or the first message. Assumes nothing.
 use borrow.Author.Needs.{needs}
-use Rattle.turn.specs.Turn.{cardAfter}
 use Rattle.turn.proofs.Laws.{short, waits, takes}
 use Rattle.ascii_port.specs.Receive.{asciiStream, asciiReceived}
 use Rattle.ascii_port.proofs.receive.Statement.{statement}
@@ -8,15 +7,23 @@ use Rattle.ascii_port.proofs.receive.Tie as tie
 
 returns : tie.Need-returns
 unfolding asciiReceived
-returns c = short asciiStream (c .before .before .before .before .args .held .now) (c .before .before .before .before .args .settings .now) _ (c .before .before .before .before .args .bytes .now) (c .before .before .before .before .args .reply .now) _ (c .before .if1 .taken) (c .short-buffer .ensures)
+returns c =
+    let a = c .before .before .before .before .args in
+    short asciiStream (a .held .now) _ (a .port .now) (a .plant .now) (a .bytes .now) (a .reply .now) _ (c .before .if1 .taken) (c .short-buffer .ensures)
 
 returns-2 : tie.Need-returns-2
 unfolding asciiReceived
-returns-2 c = waits asciiStream (c .before .before .before .before .before .before .before .before .args .held .now) (c .before .before .before .before .before .before .before .before .args .settings .now) _ (c .before .before .before .before .before .before .before .before .args .bytes .now) (c .before .before .before .before .before .before .before .before .args .reply .now) _ (c .before .before .before .scan .result) (c .before .before .before .before .before .if1 .left) (c .before .before .before .scan .ensures) _ (c .before .if2 .taken) (c .nothing-taken .ensures)
+returns-2 c =
+    let a = c .before .before .before .before .before .before .before .before .args in
+    waits asciiStream (a .held .now) (a .len) (a .port .now) (a .plant .now) (a .bytes .now) (a .reply .now) _ (c .before .before .before .scan .result)
+    (c .before .before .before .before .before .if1 .left) (c .before .before .before .scan .ensures) _ (c .before .if2 .taken) (c .nothing-taken .ensures)
 
 returns-3 : tie.Need-returns-3
-unfolding asciiReceived cardAfter
-returns-3 c = takes asciiStream (c .before .before .before .before .before .before .before .before .before .before .before .before .before .args .held .now) (c .before .before .before .before .before .before .before .before .before .before .before .before .before .args .settings .now) (c .before .before .before .before .before .before .before .before .before .before .before .before .before .args .core) (c .before .before .before .before .before .before .before .before .before .before .before .before .before .args .bytes .now) (c .before .before .before .before .before .before .before .before .before .before .before .before .before .args .reply .now) _ (c .before .before .before .before .before .before .before .before .scan .result) (c .before .before .before .before .before .before .before .before .before .before .if1 .left) (c .before .before .before .before .before .before .before .before .scan .ensures) _ _ (c .before .before .before .before .before .before .if2 .left) (c .before .before .take .ensures)
+unfolding asciiReceived
+returns-3 c =
+    let a = c .before .before .before .before .before .before .before .before .before .before .before .before .before .before .args in
+    takes asciiStream (a .held .now) (a .len) (a .port .now) (a .plant .now) (a .bytes .now) (a .reply .now) _ (c .before .before .before .before .before .before .before .before .before .scan .result)
+    (c .before .before .before .before .before .before .before .before .before .before .before .if1 .left) (c .before .before .before .before .before .before .before .before .before .scan .ensures) _ _ (c .before .before .before .before .before .before .before .if2 .left) (c .before .before .take .ensures)
 
 pub receive-spec : {M : Type 1} → statement M
 receive-spec =

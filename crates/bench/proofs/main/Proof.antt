@@ -4,10 +4,10 @@ use Rattle.bench.proofs.main.Statement.{statement}
 use Rattle.bench.proofs.main.Tie as tie
 
 abbrev Inv-loop : tie.InvT-loop
-Inv-loop scrap₀ line₀ text₀ reader₀ card₀ turns₀ scrap line text reader card turns = Unit {0}
+Inv-loop scrap₀ text₀ reader₀ card₀ turns₀ scrap text reader card turns = Unit {0}
 
 abbrev μ-loop : tie.MeasureT-loop
-μ-loop scrap₀ line₀ text₀ reader₀ card₀ turns₀ scrap line text reader card turns = turns
+μ-loop scrap₀ text₀ reader₀ card₀ turns₀ scrap text reader card turns = turns
 
 new-requires : tie.Need-new-requires Inv-loop μ-loop
 new-requires c κs = search needs

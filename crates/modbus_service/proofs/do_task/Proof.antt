@@ -13,7 +13,6 @@ do-task-spec =
     (λ c. search needs)
     (λ c κs. search needs)
     (λ c. search needs)
-    (λ c κs. search needs)
     (λ c. search done-told)
     (λ c. search done-written)
     (λ c. search done-refused))

@@ -5,16 +5,6 @@ use Rattle.nfo_service.specs.Serve.{reachesUs}
 use Rattle.nfo_service.proofs.reaches_us.Statement.{statement}
 use Rattle.nfo_service.proofs.reaches_us.Tie as tie
 
-returns : tie.Need-returns
-unfolding reachesUs
-returns c = search tests
-
-to-us-requires : tie.Need-to-us-requires
-to-us-requires c κs = search needs
-
-returns-2 : tie.Need-returns-2
-unfolding reachesUs
-returns-2 c = search tests
-
 pub reaches-us-spec : {M : Type 1} → statement M
-reaches-us-spec = tie.close (tie.spec returns to-us-requires returns-2)
+unfolding reachesUs
+reaches-us-spec = tie.close (tie.spec (λ c. search tests) (λ c κs. search needs) (λ c. search tests))

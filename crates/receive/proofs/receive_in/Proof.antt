@@ -1,23 +1,33 @@
--- `receive::receive_in` meets its contract: each protocol's call, by the number in the core. Assumes nothing.
+-- `receive::receive_in` meets its contract: each protocol's call, by the number in the port. Assumes nothing.
 use borrow.Author.Needs.{needs}
-use Rattle.turn.specs.Core.{cardOf}
+use Rattle.card.specs.State.{cardOf}
 use Rattle.receive.proofs.Laws.{by-rtu, by-ascii, by-nfo, does}
 use Rattle.receive.proofs.receive_in.Statement.{statement}
 use Rattle.receive.proofs.receive_in.Tie as tie
 
 returns : tie.Need-returns
-returns c = does _ _ (c .before .before .before .before .before .before .before .before .before .before .args .reply .now) _ _ (by-rtu (cardOf (c .before .before .before .before .before .before .before .before .before .before .args .held .now) (c .before .before .before .before .before .before .before .before .before .before .args .settings .now) (c .before .before .before .before .before .before .before .before .before .before .args .core)) (c .before .before .before .before .before .before .before .before .before .before .args .bytes .now) _ (c .before .before .before .before .before .before .if1 .taken)) (c .before .before .receive .ensures)
+returns c =
+    does _ _ (c .before .before .before .before .before .before .before .before .before .before .before .args .reply .now) _ _
+    (by-rtu (cardOf (c .before .before .before .before .before .before .before .before .before .before .before .args .held .now) (c .before .before .before .before .before .before .before .before .before .before .before .args .len) (c .before .before .before .before .before .before .before .before .before .before .before .args .port .now) (c .before .before .before .before .before .before .before .before .before .before .before .args .plant .now)) (c .before .before .before .before .before .before .before .before .before .before .before .args .bytes .now) _ (c .before .before .before .before .before .before .before .if1 .taken))
+    (c .before .before .receive .ensures)
 
 returns-2 : tie.Need-returns-2
-returns-2 c = does _ _ (c .before .before .before .before .before .before .before .before .before .before .before .before .args .reply .now) _ _ (by-ascii (cardOf (c .before .before .before .before .before .before .before .before .before .before .before .before .args .held .now) (c .before .before .before .before .before .before .before .before .before .before .before .before .args .settings .now) (c .before .before .before .before .before .before .before .before .before .before .before .before .args .core)) (c .before .before .before .before .before .before .before .before .before .before .before .before .args .bytes .now) _ (c .before .before .before .before .before .before .if2 .taken)) (c .before .before .receive2 .ensures)
+returns-2 c =
+    does _ _ (c .before .before .before .before .before .before .before .before .before .before .before .before .args .reply .now) _ _
+    (by-ascii (cardOf (c .before .before .before .before .before .before .before .before .before .before .before .before .args .held .now) (c .before .before .before .before .before .before .before .before .before .before .before .before .args .len) (c .before .before .before .before .before .before .before .before .before .before .before .before .args .port .now) (c .before .before .before .before .before .before .before .before .before .before .before .before .args .plant .now)) (c .before .before .before .before .before .before .before .before .before .before .before .before .args .bytes .now) _ (c .before .before .before .before .before .before .before .if2 .taken))
+    (c .before .before .receive2 .ensures)
 
 returns-3 : tie.Need-returns-3
-returns-3 c = does _ _ (c .before .before .before .before .before .before .before .before .before .before .before .before .args .reply .now) _ _ (by-nfo (cardOf (c .before .before .before .before .before .before .before .before .before .before .before .before .args .held .now) (c .before .before .before .before .before .before .before .before .before .before .before .before .args .settings .now) (c .before .before .before .before .before .before .before .before .before .before .before .before .args .core)) (c .before .before .before .before .before .before .before .before .before .before .before .before .args .bytes .now) _ (c .before .before .before .before .before .before .before .before .if1 .left) (c .before .before .before .before .before .before .if2 .left)) (c .before .before .receive3 .ensures)
+returns-3 c =
+    does _ _ (c .before .before .before .before .before .before .before .before .before .before .before .before .args .reply .now) _ _
+    (by-nfo (cardOf (c .before .before .before .before .before .before .before .before .before .before .before .before .args .held .now) (c .before .before .before .before .before .before .before .before .before .before .before .before .args .len) (c .before .before .before .before .before .before .before .before .before .before .before .before .args .port .now) (c .before .before .before .before .before .before .before .before .before .before .before .before .args .plant .now)) (c .before .before .before .before .before .before .before .before .before .before .before .before .args .bytes .now) _ (c .before .before .before .before .before .before .before .before .if1 .left) (c .before .before .before .before .before .before .before .if2 .left))
+    (c .before .before .receive3 .ensures)
 
 pub receive-in-spec : {M : Type 1} → statement M
 receive-in-spec =
     tie.close
     (tie.spec
+    (λ c. search needs)
     (λ c κs. search needs)
     (λ c. search needs)
     returns

@@ -5,7 +5,11 @@ use Rattle.rtu_port.proofs.take.Statement.{statement}
 use Rattle.rtu_port.proofs.take.Tie as tie
 
 returns : tie.Need-returns
-returns c = takes (c .before .before .before .before .before .before .before .before .before .before .before .before .args .held .now) (c .before .before .before .before .before .before .before .before .before .before .before .before .args .settings .now) _ (c .before .before .before .before .before .before .before .before .before .before .before .before .args .core) _ (c .before .before .before .before .before .before .before .before .before .before .before .before .args .frame .now) _ _ (c .before .before .before .before .before .before .serve .result) _ _ (c .before .before .before .before .before .before .before .before .before .before .before .before .args .reply .now) (c .before .before .before .before .before .before .before .before .before .address-in .ensures) (c .before .before .before .before .before .before .before .before .unit-in .ensures) (c .before .before .before .before .before .before .serve .ensures) (c .before .before .before .put .ensures) (c .core-after .ensures)
+returns c =
+    let a = c .before .before .before .before .before .before .before .before .before .before .before .before .before .args in
+    takes (a .held .now) (a .port .now) _ _ (a .plant .now) _ (a .frame .now) _ _ (c .before .before .before .before .before .before .serve .result) _ _ (a .reply .now)
+    (c .before .before .before .before .before .before .before .before .before .before .address-in .ensures) (c .before .before .before .before .before .before .before .before .before .unit-in .ensures) (c .before .before .before .before .before .before .serve .ensures)
+    (c .before .before .before .before .after-message .ensures) (c .before .before .put .ensures)
 
 pub take-spec : {M : Type 1} → statement M
 take-spec =

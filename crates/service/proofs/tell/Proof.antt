@@ -1,4 +1,4 @@
--- `service::tell` meets its contract by what the plant's read tells. Assumes nothing.
+-- `service::tell` meets its contract by what the read tells. Assumes nothing.
 use borrow.Author.Needs.{needs}
 use Rattle.service.proofs.Laws.{told-is}
 use Rattle.service.proofs.tell.Statement.{statement}

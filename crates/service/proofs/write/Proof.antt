@@ -1,6 +1,6 @@
--- `service::write` meets its contract: the plant's permit says which answer it is. Assumes nothing.
+-- `service::write` meets its contract: the permit says which answer it is. Assumes nothing.
 use borrow.Author.Needs.{needs}
-use Rattle.service.proofs.Laws.{wrote-done, wrote-refused}
+use Rattle.service.proofs.Laws.{wrote-plant, wrote-answer}
 use Rattle.service.proofs.write.Statement.{statement}
 use Rattle.service.proofs.write.Tie as tie
 
@@ -11,5 +11,5 @@ write-spec =
     (λ c κs. search needs)
     (λ c. search needs)
     (λ c. search needs)
-    (λ c. search wrote-done)
-    (λ c. search wrote-refused))
+    (λ c. (search wrote-plant, search wrote-answer))
+    (λ c. (search wrote-plant, search wrote-answer)))

@@ -1,38 +1,15 @@
--- `session_loop::run` meets its contract. Nothing has to hold from turn to turn, so the invariant says nothing; the measure is the number of
--- turns that are left. Assumes nothing.
+-- `session_loop::run` meets its contract. From turn to turn the buffer keeps its length; the measure is the number of turns that are left. Assumes nothing.
+use mathlib.Core.Path.{_≡_}
 use borrow.Author.Needs.{needs}
+use lib.ListN.{length}
 use Rattle.session_loop.proofs.run.Statement.{statement}
 use Rattle.session_loop.proofs.run.Tie as tie
 
 abbrev Inv-loop : tie.InvT-loop
-Inv-loop port replies card₀ turns₀ card turns = Unit {0}
+Inv-loop from replies held₀ port₀ plant₀ len₀ scrap₀ turns₀ held port plant len scrap turns = 4096 ≡ length scrap
 
 abbrev μ-loop : tie.MeasureT-loop
-μ-loop port replies card₀ turns₀ card turns = turns
-
-start-requires : tie.Need-start-requires Inv-loop μ-loop
-start-requires c κs = search needs
-
-loop-holds : tie.Need-loop-holds Inv-loop μ-loop
-loop-holds c = search needs
-
-read-some-requires : tie.Need-read-some-requires Inv-loop μ-loop
-read-some-requires c κs = search needs
-
-returns : tie.Need-returns Inv-loop μ-loop
-returns c = search needs
-
-sub-turns : tie.Need-sub-turns Inv-loop μ-loop
-sub-turns c = search needs
-
-loop-less : tie.Need-loop-less Inv-loop μ-loop
-loop-less c = search needs
-
-loop-again : tie.Need-loop-again Inv-loop μ-loop
-loop-again c = search needs
-
-returns-2 : tie.Need-returns-2 Inv-loop μ-loop
-returns-2 c = search needs
+μ-loop from replies held₀ port₀ plant₀ len₀ scrap₀ turns₀ held port plant len scrap turns = turns
 
 pub run-spec : {M : Type 1} → statement M
 run-spec =
@@ -40,11 +17,18 @@ run-spec =
     (tie.spec
     Inv-loop
     μ-loop
-    start-requires
-    loop-holds
-    read-some-requires
-    returns
-    sub-turns
-    loop-less
-    loop-again
-    returns-2)
+    (λ c κs. search needs)
+    (λ c κs. search needs)
+    (λ c. search needs)
+    (λ c. search needs)
+    (λ c κs. search needs)
+    (λ c. search needs)
+    (λ c. search needs)
+    (λ c κs. search needs)
+    (λ c. search needs)
+    (λ c. search needs)
+    (λ c κs. search needs)
+    (λ c. search needs)
+    (λ c. search needs)
+    (λ c. search needs)
+    (λ c. search needs))

@@ -1,50 +1,44 @@
--- `session_loop::serve_all` is safe and ends: the place stays within what was read, and each call uses a byte at least. Assumes nothing.
+-- `session_loop::serve_all` meets its contract, is safe and ends: from the card that there is now, the bytes that are left give what all give from the first; each
+-- call uses a byte at least, and none that is not there. Assumes nothing.
 use Prim.Native.Nat.{_≤_, _-_}
 use native.Mathlib.Omega.{arith}
-use lib.ListN.{length}
-use Rattle.session_loop.proofs.Laws.{used-within, used-less}
 use borrow.Author.Needs.{needs}
+use lib.ListN.{length, drop}
+use Rattle.card.specs.State.{cardOf}
+use Rattle.session_loop.proofs.Loop.{Left, used-within, used-less, handed-on, handed-over}
 use Rattle.session_loop.proofs.serve_all.Statement.{statement}
 use Rattle.session_loop.proofs.serve_all.Tie as tie
 
 abbrev Inv-loop : tie.InvT-loop
-Inv-loop scrap replies c₀ at₀ c at = at ≤ length scrap
+Inv-loop held₀ len port₀ plant₀ scrap replies reply₀ text₀ pending₀ at₀ held port plant reply text pending at =
+    (at ≤ length scrap) × Left (cardOf held₀ len port₀ plant₀) scrap (cardOf held pending port plant) (drop at scrap)
 
 abbrev μ-loop : tie.MeasureT-loop
-μ-loop scrap replies c₀ at₀ c at = length scrap - at
+μ-loop held₀ len port₀ plant₀ scrap replies reply₀ text₀ pending₀ at₀ held port plant reply text pending at = length scrap - at
 
 loop-holds : tie.Need-loop-holds Inv-loop μ-loop
-loop-holds c = search needs
-
-sub-serve : tie.Need-sub-serve Inv-loop μ-loop
-sub-serve c = search needs
-
-part-serve-start : tie.Need-part-serve-start Inv-loop μ-loop
-part-serve-start c = search needs
-
-part-serve-end : tie.Need-part-serve-end Inv-loop μ-loop
-part-serve-end c = search needs
-
-serve-requires : tie.Need-serve-requires Inv-loop μ-loop
-serve-requires c κs = search needs
-
-send-requires : tie.Need-send-requires Inv-loop μ-loop
-send-requires c κs = search needs
-
-write-requires : tie.Need-write-requires Inv-loop μ-loop
-write-requires c κs = search needs
+loop-holds c = (omega arith, λ d h. h)
 
 add-at : tie.Need-add-at Inv-loop μ-loop
-add-at c = omega (arith, c .before .before .before .before .before .before .before .before .before .before .before .before .good .1 .0 .0, used-within (c .before .before .before .before .before .before .before .before .before .before .loop .c) (c .before .before .before .before .before .before .before .before .before .before .before .before .args .scrap .now) (c .before .before .before .before .before .before .before .before .before .before .loop .at) (c .before .before .before .before .before .serve .result) (c .before .before .before .before .before .before .before .before .before .loop-test .taken) (c .before .before .before .before .before .serve .ensures .0))
-
-loop-less : tie.Need-loop-less Inv-loop μ-loop
-loop-less c = search used-less
+add-at c =
+    let l = c .before .before .before .before .before .before .before .before .before .before .before .before .before .loop in
+    let s = c .before .before .before .before .before .serve in
+    omega (
+      arith,
+      c .before .before .before .before .before .before .before .before .before .before .before .before .before .before .before .good .1 .1 .1 .1 .0,
+      used-within (cardOf (l .held) (l .pending) (l .port) (l .plant)) (c .before .before .before .before .before .before .before .before .before .before .before .before .before .before .before .args .scrap .now) (l .at) _ _ _ (s .result) (c .before .before .before .before .before .before .before .before .before .before .before .before .loop-test .taken) (s .ensures .0),
+    )
 
 loop-again : tie.Need-loop-again Inv-loop μ-loop
-loop-again c = search used-within
+loop-again c =
+    let l = c .before .before .before .before .before .before .before .before .before .before .before .before .before .loop in
+    let s = c .before .before .before .before .before .serve in
+    handed-on (cardOf (l .held) (l .pending) (l .port) (l .plant)) (c .before .before .before .before .before .before .before .before .before .before .before .before .before .before .before .args .scrap .now) (l .at) _ _ _ (s .result) (c .before .before .before .before .before .before .before .before .before .before .before .before .loop-test .taken) (s .ensures .0) _ (l .inv .1)
 
 returns : tie.Need-returns Inv-loop μ-loop
-returns c = search needs
+returns c =
+    let l = c .before .loop in
+    handed-over _ (cardOf (l .held) (l .pending) (l .port) (l .plant)) _ (l .at) (omega (arith, c .loop-test .left)) (l .inv .1)
 
 pub serve-all-spec : {M : Type 1} → statement M
 serve-all-spec =
@@ -53,13 +47,13 @@ serve-all-spec =
     Inv-loop
     μ-loop
     loop-holds
-    sub-serve
-    part-serve-start
-    part-serve-end
-    serve-requires
-    send-requires
-    write-requires
+    (λ c. search needs)
+    (λ c. search needs)
+    (λ c. search needs)
+    (λ c κs. search needs)
+    (λ c κs. search needs)
+    (λ c κs. search needs)
     add-at
-    loop-less
+    (λ c. search used-less)
     loop-again
     returns)

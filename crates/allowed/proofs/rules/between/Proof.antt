@@ -1,13 +1,7 @@
--- `allowed::between` meets its contract: the two tests of `within`. Assumes nothing.
-use Rattle.allowed.proofs.Signed.{within-above, within-below}
+-- `allowed::between` meets its contract: its two tests. Assumes nothing.
+use Rattle.base.proofs.Tests.{tests}
 use Rattle.allowed.proofs.rules.between.Statement.{statement}
 use Rattle.allowed.proofs.rules.between.Tie as tie
 
-returns : tie.Need-returns
-returns c = search within-above
-
-returns-2 : tie.Need-returns-2
-returns-2 c = search within-below
-
 pub between-spec : {M : Type 1} → statement M
-between-spec = tie.close (tie.spec returns returns-2)
+between-spec = tie.close (tie.spec (λ c. search tests) (λ c. search tests))

@@ -4,9 +4,9 @@ use Prim.Native.Nat.{_-_}
 use native.Mathlib.Omega.{arith}
 use borrow.Author.Needs.{needs}
 use lib.ListN.{length}
-use Rattle.pending.proofs.Scans.{Scanning, scan-takes, scan-done}
+use Rattle.pending.proofs.Scans.{Scanning, scan-done}
 use Rattle.ascii_scan.specs.Scan.{feeding}
-use Rattle.ascii_scan.proofs.Running.{scan-runs}
+use Rattle.ascii_scan.proofs.Turns.{step-takes, step-again}
 use Rattle.ascii_scan.proofs.scanning.scan.Statement.{statement}
 use Rattle.ascii_scan.proofs.scanning.scan.Tie as tie
 
@@ -20,27 +20,13 @@ loop-holds : tie.Need-loop-holds Inv-loop μ-loop
 loop-holds c = (omega arith, refl)
 
 returns : tie.Need-returns Inv-loop μ-loop
-returns c = search scan-takes
+returns c = search step-takes
 
 loop-again : tie.Need-loop-again Inv-loop μ-loop
-loop-again c = search scan-runs
+loop-again c = search step-again
 
 returns-2 : tie.Need-returns-2 Inv-loop μ-loop
 returns-2 c = search scan-done
 
 pub scan-spec : {M : Type 1} → statement M
-scan-spec =
-    tie.close
-    (tie.spec
-    Inv-loop
-    μ-loop
-    loop-holds
-    (λ c. search needs)
-    (λ c κs. search needs)
-    (λ c. search needs)
-    returns
-    (λ c. search needs)
-    (λ c κs. search needs)
-    (λ c. search needs)
-    loop-again
-    returns-2)
+scan-spec = tie.close (tie.spec Inv-loop μ-loop loop-holds (λ c κs. search needs) returns (λ c. search needs) loop-again returns-2)

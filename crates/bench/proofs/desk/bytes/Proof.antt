@@ -6,10 +6,10 @@ use Rattle.bench.proofs.desk.bytes.Statement.{statement}
 use Rattle.bench.proofs.desk.bytes.Tie as tie
 
 abbrev Inv-loop : tie.InvT-loop
-Inv-loop out₀ scrap next₀ at₀ out next at = at ≤ length scrap
+Inv-loop scrap next₀ at₀ next at = at ≤ length scrap
 
 abbrev μ-loop : tie.MeasureT-loop
-μ-loop out₀ scrap next₀ at₀ out next at = length scrap - at
+μ-loop scrap next₀ at₀ next at = length scrap - at
 
 loop-holds : tie.Need-loop-holds Inv-loop μ-loop
 loop-holds c = search needs

@@ -12,4 +12,4 @@ returns-2 : tie.Need-returns-2
 returns-2 c = search tests
 
 pub select-keeps-spec : {M : Type 1} → statement M
-select-keeps-spec = tie.close (tie.spec (λ c κs. search needs) returns returns-2)
+select-keeps-spec = tie.close (tie.spec (λ c. search needs) (λ c κs. search needs) returns returns-2)

@@ -10,11 +10,15 @@ unfolding flagStands statusOf
 status-of-spec =
     tie.close
     (tie.spec
+    (λ c. search needs)
+    (λ c. search needs)
     (λ c κs. search needs)
     (λ c. search tests)
+    (λ c. search needs)
     (λ c κs. search needs)
     (λ c. search tests)
     (λ c. search tests)
+    (λ c. search needs)
     (λ c κs. search needs)
     (λ c. search tests)
     (λ c. search tests)

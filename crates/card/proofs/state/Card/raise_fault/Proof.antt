@@ -1,19 +1,8 @@
--- `card::Card::raise_fault` meets its contract: the event on the drive, lifted. Assumes nothing.
+-- `card::Card::raise_fault` meets its contract: each part of the card is the definition's. Assumes nothing.
 use borrow.Author.Needs.{needs}
-use Rattle.card.specs.Events.{told, faultRaised}
-use Rattle.card.proofs.Laws.{lifted}
+use Rattle.card.proofs.Laws.{raised-of}
 use Rattle.card.proofs.state.Card.raise_fault.Statement.{statement}
 use Rattle.card.proofs.state.Card.raise_fault.Tie as tie
 
-raise-fault-requires : tie.Need-raise-fault-requires
-raise-fault-requires c κs = search needs
-
-told-requires : tie.Need-told-requires
-told-requires c κs = search needs
-
-returns : tie.Need-returns
-unfolding faultRaised
-returns c = search (lifted told)
-
 pub raise-fault-spec : {M : Type 1} → statement M
-raise-fault-spec = tie.close (tie.spec raise-fault-requires told-requires returns)
+raise-fault-spec = tie.close (tie.spec (λ c κs. search needs) (λ c κs. search needs) (λ c κs. search needs) (λ c. search raised-of))

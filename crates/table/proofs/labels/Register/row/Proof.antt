@@ -1,4 +1,4 @@
--- `table::Register::row` meets its contract: 02A5h is computed; any other register is an ADI number's address, or no row begins there.
+-- `table::Register::row` meets its contract: a register is an ADI number's address; or it is 02A5h, which is computed; or no row begins there.
 -- Assumes nothing.
 use borrow.Author.Needs.{needs}
 use Rattle.table.specs.Table.{rows}
@@ -9,10 +9,6 @@ use Rattle.table.proofs.Lookup.{from-none, from-adi}
 use Rattle.table.proofs.labels.Register.row.Statement.{statement}
 use Rattle.table.proofs.labels.Register.row.Tie as tie
 
-returns : tie.Need-returns
-unfolding rowFrom rows firstRow firstRegister address
-returns c = search (at-key rowFrom)
-
 adi-requires : tie.Need-adi-requires
 adi-requires c κs = search needs
 
@@ -21,6 +17,10 @@ enum-known-adi c = search needs
 
 enum-told : tie.Need-enum-told
 enum-told c = search needs
+
+returns : tie.Need-returns
+unfolding rowFrom rows firstRow firstRegister address
+returns c = search (at-key rowFrom)
 
 returns-2 : tie.Need-returns-2
 returns-2 c = search from-none
@@ -34,4 +34,4 @@ returns-3 c = search from-adi
 pub row-spec : {M : Type 1} → statement M
 row-spec =
     tie.close
-    (tie.spec returns adi-requires enum-known-adi enum-told returns-2 row-requires returns-3)
+    (tie.spec adi-requires enum-known-adi enum-told returns returns-2 row-requires returns-3)

@@ -1,0 +1,23 @@
+-- `bench_lines::put` meets its contract: there is room for the character, or there is none. Assumes nothing.
+use borrow.Author.Needs.{needs}
+use Rattle.bench_lines.proofs.Laws.{put-here, put-out}
+use Rattle.bench_lines.proofs.put.Statement.{statement}
+use Rattle.bench_lines.proofs.put.Tie as tie
+
+slice-write-out : tie.Need-slice-write-out
+slice-write-out c = search needs
+
+add-result : tie.Need-add-result
+add-result c = search needs
+
+same-length : tie.Need-same-length
+same-length c = search needs
+
+returns : tie.Need-returns
+returns c = put-here _ _ _ (c .if1 .taken)
+
+returns-2 : tie.Need-returns-2
+returns-2 c = put-out _ _ _ (c .if1 .left)
+
+pub put-spec : {M : Type 1} → statement M
+put-spec = tie.close (tie.spec slice-write-out add-result same-length returns returns-2)

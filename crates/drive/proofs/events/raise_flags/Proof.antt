@@ -1,0 +1,10 @@
+-- `drive::raise_flags` meets its contract. Assumes nothing.
+use borrow.Author.Needs.{needs}
+use mathlib.Core.Path.{refl}
+use Rattle.drive.specs.Faults.{flagRaised}
+use Rattle.drive.proofs.events.raise_flags.Statement.{statement}
+use Rattle.drive.proofs.events.raise_flags.Tie as tie
+
+pub raise-flags-spec : {M : Type 1} → statement M
+unfolding flagRaised
+raise-flags-spec = tie.close (tie.spec (λ c. search needs) (λ c. search needs) (λ c. search needs) (λ c. refl))

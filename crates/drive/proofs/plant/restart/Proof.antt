@@ -1,0 +1,19 @@
+-- `drive::restart` meets its contract. Assumes nothing.
+use borrow.Author.Needs.{needs}
+use mathlib.Core.Path.{refl}
+use Rattle.drive.specs.Plant.{restarted}
+use Rattle.drive.proofs.plant.restart.Statement.{statement}
+use Rattle.drive.proofs.plant.restart.Tie as tie
+
+pub restart-spec : {M : Type 1} → statement M
+unfolding restarted
+restart-spec =
+    tie.close
+    (tie.spec
+    (λ c. search needs)
+    (λ c. search needs)
+    (λ c. search needs)
+    (λ c. search needs)
+    (λ c. search needs)
+    (λ c. search needs)
+    (λ c. refl))

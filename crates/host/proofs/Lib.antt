@@ -1,5 +1,0 @@
-pub mod Event
-pub mod Plain
-pub mod Restart
-pub mod Start
-pub mod Receive

@@ -1,0 +1,14 @@
+// The numbers of a port besides its bytes pending: its protocol, its time sum and its SioErr. They lie in one array, each at its name, so that a call is lent
+// them where they lie.
+
+// The numbers of one port. Any words are a port's.
+pub type Numbers = [u32; 3];
+
+// The protocol, chosen at start: 1 is Modbus RTU, 2 Modbus ASCII, any other number NFO serial, for which start puts 0.
+pub const PROTOCOL: usize = 0;
+
+// The time sum, in tenths.
+pub const SUM: usize = 1;
+
+// SioErr: bit 0 time-out, bit 1 parity fault.
+pub const SIOERR: usize = 2;

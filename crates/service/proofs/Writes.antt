@@ -1,0 +1,36 @@
+-- A write, case by case: each law's premises are what the code's tests and its callees showed. Assumes nothing.
+use mathlib.Core.Path.{_≡_}
+use Prim.Native.Nat.{ℕ, _<_, _≤_}
+use lib.ListN.{getD, set}
+use borrow.Author.Tests.{eq-eqb, ne-eqb, lt-ltb, le-ltb}
+use Rattle.table.specs.Names.{SCMD}
+use Rattle.answers.specs.declared.Change.{Change}
+use Rattle.answers.specs.declared.Refusal.{Refusal}
+use Rattle.drive.specs.Plant.{Plant}
+use Rattle.permit.specs.declared.Permit.{Permit}
+use Rattle.permit.specs.declared.Permit.the-variants.{Write, Refused}
+use Rattle.permit.specs.Permit.{permitOf}
+use Rattle.service.specs.Write.{Written, followed, applied, written}
+
+-- a row holds a word: one past SCMD, the word that it had, a different word
+module _ (p : Plant) (row w : ℕ) where
+  pub applied-past : SCMD < row → p ≡ applied row w p
+  unfolding applied
+  applied-past h = simp (lt-ltb _ _ h)
+
+  pub applied-same : row ≤ SCMD → getD p row 0 ≡ w → set p row w ≡ applied row w p
+  unfolding applied
+  applied-same h e = simp (le-ltb _ _ h, eq-eqb _ _ e)
+
+  pub applied-different : (after : Plant) → row ≤ SCMD → (getD p row 0 ≡ w → ⊥) → after ≡ followed row (set p row w) → after ≡ applied row w p
+  unfolding applied
+  applied-different after h e q = simp (le-ltb _ _ h, ne-eqb _ _ e) q
+
+module _ (p after : Plant) (row w : ℕ) (r : Permit) (permits : r ≡ permitOf p row w) where
+  pub written-done : (change : Change) → r ≡ Write change → after ≡ applied (change .row .0) (change .word) p → _≡_ {A = Written} (record { plant = after; permit = Write change }) (written p row w)
+  unfolding written
+  written-done change h e = simp (e, ← permits, h)
+
+  pub written-refused : (refusal : Refusal) → r ≡ Refused refusal → _≡_ {A = Written} (record { plant = p; permit = r }) (written p row w)
+  unfolding written
+  written-refused refusal h = simp (← permits, h)
