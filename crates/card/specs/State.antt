@@ -25,7 +25,7 @@ pub record Core : Type 0 where
 abbrev pub coreOf : Card → Core
 coreOf c = record { port = c .port .numbers; plant = c .plant }
 
--- the protocol, the time sum and SioErr of the card's port
+-- "The protocol of a port is chosen at start": the number that the port has for it
 abbrev pub protocolOf : Card → ℕ
 protocolOf c = Ports.protocol (c .port .numbers)
 

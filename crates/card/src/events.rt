@@ -1,4 +1,4 @@
-// Host events. Each is a method that hands back the whole card and its outcome, 0 or 12. A tick and a port's fault touch plant and port: `tick_in` and `port_fault_in`
+// Host events. Each is a method that hands back the whole card and its outcome, 0 or 12. A tick and a port's fault touch plant and port: `tick_in` and `parity_fault_in`
 // are lent the two where they lie.
 use crate::outcome::Outcome;
 use crate::state::Card;

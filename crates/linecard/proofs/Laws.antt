@@ -32,10 +32,10 @@ use Rattle.linecard.specs.Host.{protocolOf, activeOf, OnPlant, OnPort, R
 use Rattle.linecard.specs.Told.{Leaves, toldIn, toldOf, placeOf}
 
 -- ---- start and restart: each part is the definition's
-pub started-in : (protocol : Protocol) (n : ℕ) (k : Protocol) (q p : Plant) → k ≡ protocolOf n → q ≡ fresh (protocolNumber k) → p ≡ Plants.started
+pub started-in : (n : ℕ) (k : Protocol) (q p : Plant) → k ≡ protocolOf n → q ≡ fresh (protocolNumber k) → p ≡ Plants.started
     → cardOf (empty .bytes) 0 q p ≡ started (protocolOf n)
 unfolding started empty
-started-in protocol n k q p a b d = simp (d, b, a)
+started-in n k q p a b d = simp (d, b, a)
 
 pub restarted-in : (len : ℕ) (q p y x : Plant) → y ≡ fresh (Ports.protocol q) → x ≡ Plants.restarted p → Restarts len q p 0 y x
 unfolding restarted emptied
