@@ -17,7 +17,7 @@ HEAD = ["Name", "E", "ADI", "Register", "Hex", "Width", "Written", "Allowed", "S
 
 # document 01's names where they are no single word
 NAMES = {"SpdScl-num": "SpdScl num", "SpdScl-den": "SpdScl den", "Inv-St-ack": "Inv St, ack", "Inv-St": "Inv St"}
-WRITTEN = {"Init": "standing", "Run": "always", "Read": "never"}
+WRITTEN = {"Init": "standing", "Run": "always", "OnlyRead": "never"}
 
 # document 01 has no units: the card stores numbers. What they count is from its sources, S2 for rows with an E number and S1 for the others.
 MEANING = {
@@ -121,7 +121,7 @@ def allowed(word):
     raise Bad("no column Allowed: %s" % word)
 
 
-ROW = re.compile(r"row (\S+) (?:\(E 0x([0-9A-F]{4})\)|(no-E)) \((ADI|register) (\w+)\) ([12]) (.*) (Init|Run|Read) (?:\(Word (\d+)\)|NoWord)")
+ROW = re.compile(r"row (\S+) (?:\(E 0x([0-9A-F]{4})\)|(no-E)) \((ADI|register) (\w+)\) ([12]) (.*) (Init|Run|OnlyRead) (?:\(Word (\d+)\)|NoWord)")
 
 
 def rows():

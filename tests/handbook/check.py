@@ -72,7 +72,7 @@ def outcomes():
     """Each number that the definitions give, the card's and the master's, in README's table."""
     numbers = []
     for path in ("crates/answers/specs/Answer.antt", "crates/card/specs/Outcome.antt", "crates/master/specs/Sent.antt", "crates/master_reply/specs/Reply.antt"):
-        numbers += map(int, re.findall(r"^(?:answerNumber|refusalNumber|numberOf|sentNumber|replyNumber) [^=\n]*= (\d+)$", text(path), re.M))
+        numbers += map(int, re.findall(r"^(?:answerNumber|refusalNumber|outcomeNumber|sentNumber|replyNumber) [^=\n]*= (\d+)$", text(path), re.M))
     told = [int(row[0]) for row in cells("README.md", "Outcomes")]
     return differs("README.md, Outcomes", told, sorted(set(numbers)))
 

@@ -11,7 +11,7 @@ use lib.Signed.{leZ, ltZ}
 use Rattle.base.specs.Choice.{pick, both, either}
 use Rattle.base.proofs.Tests.{same-test, both-false, both-out}
 use Rattle.allowed.specs.Words.{narrow, rankOf, listed}
-use Rattle.allowed.specs.Allowed.{twos, numberOf, eqZ, member, within, belowLimt, aboveMagn, about, atMode, setpointAllows, allows, allowedAt}
+use Rattle.allowed.specs.Allowed.{twos, integerOf, eqZ, member, within, belowLimt, aboveMagn, about, atMode, setpointAllows, allows, allowedAt}
 use Rattle.base.proofs.Arms.{NoneOf, upFrom, past}
 use Rattle.table.specs.Table.{rows, lineAt}
 use Rattle.table.specs.declared.lines.Allowed.{Allowed}
@@ -91,8 +91,8 @@ word-rank x h = go (ltb x 0x8000) refl
         let n : 0x10000 - suc x ≡ 0x7FFF - (x - 0x8000) = omega arith in
         simp (q, k, lt-ltb (x - 0x8000) 0x8000 (omega arith)) (ap negsuc n)
 
-number-rank : (w : ℕ) → numberOf w ≡ numbered (rankOf w)
-unfolding numberOf rankOf
+number-rank : (w : ℕ) → integerOf w ≡ numbered (rankOf w)
+unfolding integerOf rankOf
 number-rank w = word-rank (w % 0x10000) (omega arith)
 
 -- a test of a 16-bit row's word
@@ -117,7 +117,7 @@ pub limt-below : (limt w : ℕ) → 0x8000 ≤ w → false ≡ narrow (belowLimt
 unfolding narrow belowLimt twos
 limt-below limt w h = go (ltb w 0x10000)
   where
-    go : (t : Bool) → false ≡ pick t (both (leZ (pos 0) (pick (ltb w 0x8000) (pos w) (negsuc (0x10000 - suc w)))) (ltZ (pick (ltb w 0x8000) (pos w) (negsuc (0x10000 - suc w))) (numberOf limt))) false
+    go : (t : Bool) → false ≡ pick t (both (leZ (pos 0) (pick (ltb w 0x8000) (pos w) (negsuc (0x10000 - suc w)))) (ltZ (pick (ltb w 0x8000) (pos w) (negsuc (0x10000 - suc w))) (integerOf limt))) false
     go true = simp (le-ltb w 0x8000 h)
     go false = refl
 

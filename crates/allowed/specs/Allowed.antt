@@ -16,8 +16,8 @@ unfoldable pub twos : ℕ → ℕ → ℤ
 twos half w = pick (ltb w half) (pos w) (negsuc (half + half - suc w))
 
 -- the number of a 16-bit row's word
-unfoldable pub numberOf : ℕ → ℤ
-numberOf w = twos 0x8000 (w % 0x10000)
+unfoldable pub integerOf : ℕ → ℤ
+integerOf w = twos 0x8000 (w % 0x10000)
 
 -- lo..hi
 unfoldable pub within : ℤ → ℤ → ℤ → Bool
@@ -36,11 +36,11 @@ member v (a ∷ rest) = either (eqZ v a) (member v rest)
 
 -- "0..I-limt−1", by the word of I-limt
 unfoldable pub belowLimt : ℕ → ℤ → Bool
-belowLimt limt v = both (leZ (pos 0) v) (ltZ v (numberOf limt))
+belowLimt limt v = both (leZ (pos 0) v) (ltZ v (integerOf limt))
 
 -- "I-magn+1..3000", by the word of I-magn
 unfoldable pub aboveMagn : ℕ → ℤ → ℤ → Bool
-aboveMagn magn top v = both (ltZ (numberOf magn) v) (leZ v top)
+aboveMagn magn top v = both (ltZ (integerOf magn) v) (leZ v top)
 
 abbrev pub about : ℕ → ℤ → Bool
 about m v = within (negℤ (pos m)) (pos m) v

@@ -5,7 +5,7 @@ use mathlib.Core.List.{List, [], _∷_, map}
 use Prim.Native.Nat.{ℕ}
 use Rattle.table.specs.Names.{P-Nom, I-magn, I-limt, R-fix1, RegAmp, SiAdr, SpdScl-num, Setpoint, SCMD, Inv-St}
 use Rattle.table.specs.Table.{rows, lineAt}
-use Rattle.allowed.specs.Allowed.{twos, numberOf, within, member, belowLimt, aboveMagn, atMode, setpointAllows, allows, allowedAt}
+use Rattle.allowed.specs.Allowed.{twos, integerOf, within, member, belowLimt, aboveMagn, atMode, setpointAllows, allows, allowedAt}
 use Rattle.allowed.specs.declared.Bounds.{Bounds}
 
 -- a row, a word, and whether it is allowed while I-magn is 100, I-limt 1000 and Mode 0
@@ -44,5 +44,5 @@ abbrev atStart : Bounds
 atStart = record { magn = 100; limt = 1000; mode = 0 }
 
 pub words-tried : map (λ (t : Tried). allowedAt (t .row) atStart (t .word)) words ≡ map (λ (t : Tried). t .right) words
-unfolding words allowedAt lineAt rows allows within member belowLimt aboveMagn setpointAllows atMode numberOf twos
+unfolding words allowedAt lineAt rows allows within member belowLimt aboveMagn setpointAllows atMode integerOf twos
 words-tried = refl

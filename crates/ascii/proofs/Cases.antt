@@ -13,15 +13,15 @@ use Rattle.modbus.specs.Request.{reads, asked, requestOf}
 use Rattle.modbus.specs.Answer.{unitOf}
 use Rattle.modbus.specs.declared.requests.Request.{Request}
 use Rattle.modbus.specs.declared.replies.Answer.{Answer}
-use Rattle.ascii.specs.Ascii.{textOf, bytesIn, counted, right, formed, free, lrcBegun, full, goesOn, begun, viable, ascii, asciiOf, addressIn, unitIn}
+use Rattle.ascii.specs.Ascii.{textOf, bytesIn, counted, right, formed, free, lrcBegun, full, goesOn, begun, viable, ascii, asciiOf, addressAmong, unitAmong}
 use Rattle.ascii.specs.Cases.{requests, replies, streams}
 
 pub all-formed : map formed (map (λ (t : List ℕ × ℕ × Request). t .0) requests ++ map (λ (t : List ℕ × ℕ × Answer). t .0) replies) ≡ true ∷ true ∷ true ∷ true ∷ true ∷ []
 unfolding formed same textOf bytesIn counted right bytesOf pairValue digitValue hexOf digitOf addsToZero sumOf
 all-formed = refl
 
-pub requests-read : map (λ (t : List ℕ × ℕ × Request). (t .0, addressIn (t .0), requestOf (unitIn (t .0)))) requests ≡ requests
-unfolding addressIn unitIn bytesIn bytesOf pairValue digitValue requestOf asked reads wordAt
+pub requests-read : map (λ (t : List ℕ × ℕ × Request). (t .0, addressAmong (bytesIn (t .0)), requestOf (unitAmong (bytesIn (t .0))))) requests ≡ requests
+unfolding unitAmong bytesIn bytesOf pairValue digitValue requestOf asked reads wordAt
 requests-read = refl
 
 pub replies-written : map (λ (t : List ℕ × ℕ × Answer). asciiOf (t .1) (unitOf (t .2))) replies ≡ map (λ (t : List ℕ × ℕ × Answer). t .0) replies

@@ -5,8 +5,8 @@ use Prim.Native.Nat.{ℕ, suc, _+_, _-_, _≤_, _<_}
 use native.Mathlib.Omega.{arith}
 use lib.ListN.{length, take, set, length-set, length-append, replicate}
 use lib.Seq.{sets, length-sets, take-suc-set}
-use Rattle.base.specs.Buffers.{front}
-use Rattle.base.proofs.Sets.{take-sets}
+use Rattle.base.specs.Buffers.{front, fitting}
+use Rattle.base.proofs.Sets.{take-sets, fitting-all}
 use Rattle.checks.specs.Lrc.{lrcOf}
 use Rattle.modbus.specs.Answer.{unitOf}
 use Rattle.modbus.specs.Reply.{replyIn}
@@ -14,9 +14,7 @@ use Rattle.modbus.specs.declared.replies.Answer.{Answer}
 use Rattle.modbus.proofs.Units.{unit-short}
 use Rattle.modbus.proofs.Buffers.{reply-all}
 use Rattle.ascii.specs.Ascii.{textOf, asciiOf}
-use Rattle.ascii.specs.Text.{fitting}
 use Rattle.ascii.proofs.Message.{text-length}
-use Rattle.ascii.proofs.Texts.{fitting-all}
 
 -- a reply has 19 bytes at most
 pub ascii-short : (a : ℕ) (answer : Answer) → length (asciiOf a (unitOf answer)) ≤ 19
@@ -50,16 +48,16 @@ module _ (a : ℕ) (answer : Answer) (n : ℕ) (l : List ℕ) (count : n ≡ len
 
   -- the message of the part that `put_text` was handed, in a reply buffer t of 19 bytes or more
   whole : (t : List ℕ) (x : ℕ) → 19 ≤ length t → x ≡ lrcOf (take (n - 0) l)
-      → fitting (length t) (textOf (take (n + 1 - 0) (set l n x))) ≡ replyIn (length t) (asciiOf a (unitOf answer))
+      → fitting (textOf (take (n + 1 - 0) (set l n x))) (length t) ≡ replyIn (length t) (asciiOf a (unitOf answer))
   whole t x big e =
-      ap (fitting (length t)) (all x e)
-      ∙ fitting-all (length t) (asciiOf a (unitOf answer)) (omega (arith, ascii-short a answer))
+      ap (λ (y : List ℕ). fitting y (length t)) (all x e)
+      ∙ fitting-all (asciiOf a (unitOf answer)) (length t) (omega (arith, ascii-short a answer))
       ∙ sym (reply-all (length t) (asciiOf a (unitOf answer)) big)
 
   pub ascii-count : (t : List ℕ) (x r : ℕ) → 19 ≤ length t → x ≡ lrcOf (take (n - 0) l)
-      → r ≡ length (fitting (length t) (textOf (take (n + 1 - 0) (set l n x)))) → r ≡ length (replyIn (length t) (asciiOf a (unitOf answer)))
+      → r ≡ length (fitting (textOf (take (n + 1 - 0) (set l n x))) (length t)) → r ≡ length (replyIn (length t) (asciiOf a (unitOf answer)))
   ascii-count t x r big e q = q ∙ ap length (whole t x big e)
 
   pub ascii-lent : (t now : List ℕ) (x : ℕ) → 19 ≤ length t → x ≡ lrcOf (take (n - 0) l)
-      → now ≡ front (fitting (length t) (textOf (take (n + 1 - 0) (set l n x)))) t → now ≡ front (replyIn (length t) (asciiOf a (unitOf answer))) t
+      → now ≡ front (fitting (textOf (take (n + 1 - 0) (set l n x))) (length t)) t → now ≡ front (replyIn (length t) (asciiOf a (unitOf answer))) t
   ascii-lent t now x big e q = q ∙ ap (λ (m : List ℕ). front m t) (whole t x big e)

@@ -10,7 +10,7 @@ use Rattle.base.specs.Bytes.{AllBelow, Bytes}
 use Rattle.base.proofs.Lists.{below-append}
 use Rattle.checks.specs.Lrc.{addsToZero, lrcOf}
 use Rattle.checks.proofs.Laws.{lrc-below, adds-lrc}
-use Rattle.ascii.specs.Ascii.{textOf, bytesIn, formed, asciiOf, addressIn, unitIn}
+use Rattle.ascii.specs.Ascii.{textOf, bytesIn, formed, asciiOf, addressAmong, unitAmong}
 use Rattle.ascii.proofs.Message.{text-bytes, message-out, message-in}
 use Rattle.ascii.proofs.Becoming.{with-lrc}
 
@@ -24,12 +24,11 @@ module _ (a : ℕ) (u : List ℕ) (below : Bytes (a ∷ u)) where
   unfolding asciiOf
   own-bytes = text-bytes ((a ∷ u) ++ lrcOf (a ∷ u) ∷ []) all-below
 
-  pub own-address : addressIn (asciiOf a u) ≡ a
-  unfolding addressIn
+  pub own-address : addressAmong (bytesIn (asciiOf a u)) ≡ a
   own-address = ap (λ (b : List ℕ). getD b 0 0) own-bytes
 
-  pub own-unit : unitIn (asciiOf a u) ≡ u
-  unfolding unitIn
+  pub own-unit : unitAmong (bytesIn (asciiOf a u)) ≡ u
+  unfolding unitAmong
   own-unit =
       ap (λ (b : List ℕ). drop 1 (take (length b - 1) b)) own-bytes
       ∙ ap (drop 1) (take-at (a ∷ u) (lrcOf (a ∷ u) ∷ []) (length ((a ∷ u) ++ lrcOf (a ∷ u) ∷ []) - 1) (omega (arith, length-append (a ∷ u) (lrcOf (a ∷ u) ∷ []))))
@@ -55,8 +54,8 @@ parts b below low zeroed =
     with-lrc b below zeroed (length b - 1) (omega arith)
     ∙ ap (λ (c : List ℕ). c ++ lrcOf c ∷ []) (head-tail b (length b - 1) (omega arith) (omega arith))
 
-pub formed-only : (m : List ℕ) → formed m ≡ true → m ≡ asciiOf (addressIn m) (unitIn m)
-unfolding asciiOf addressIn unitIn
+pub formed-only : (m : List ℕ) → formed m ≡ true → m ≡ asciiOf (addressAmong (bytesIn m)) (unitAmong (bytesIn m))
+unfolding asciiOf unitAmong
 formed-only m e =
     let r = message-out m e in
     let bytes : bytesIn m ≡ r .bytes = ap bytesIn (r .text) ∙ text-bytes (r .bytes) (r .below) in

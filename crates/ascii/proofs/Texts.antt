@@ -3,35 +3,25 @@ use mathlib.Core.Path.{_≡_, ap, _∙_}
 use mathlib.Core.List.{List, [], _∷_, _++_}
 use Prim.Native.Nat.{ℕ, _+_, _-_, _*_, _/_, _≤_, _<_}
 use native.Mathlib.Omega.{arith}
-use borrow.Author.Tests.{le-leb, lt-leb}
 use borrow.Rule.Slice.PartMut.{midOf, putMid}
 use lib.ListN.{length, set, length-set}
 use lib.Seq.{sets, length-sets}
-use Rattle.base.specs.Buffers.{front}
-use Rattle.base.proofs.Sets.{headed, tailed, sets-front}
+use Rattle.base.specs.Buffers.{front, fitting}
+use Rattle.base.proofs.Sets.{headed, tailed, sets-front, fitting-all, fitting-none}
 use Rattle.hex.specs.Hex.{hexOf}
 use Rattle.hex.proofs.RoundTrip.{length-hex}
 use Rattle.ascii.specs.Ascii.{textOf}
-use Rattle.ascii.specs.Text.{fitting}
 use Rattle.ascii.proofs.Message.{text-length}
 
 -- ---- a text that is too short gets nothing
-pub fitting-none : (size : ℕ) (m : List ℕ) → size < length m → fitting size m ≡ []
-unfolding fitting
-fitting-none size m h = rw (lt-leb (length m) size h)
-
-pub fitting-all : (size : ℕ) (m : List ℕ) → length m ≤ size → fitting size m ≡ m
-unfolding fitting
-fitting-all size m h = rw (le-leb (length m) size h)
-
 module _ (b t : List ℕ) (short : (length t + 1) / 2 < length b + 2) where
-  nothing : fitting (length t) (textOf b) ≡ []
-  nothing = fitting-none (length t) (textOf b) (omega (arith, text-length b))
+  nothing : fitting (textOf b) (length t) ≡ []
+  nothing = fitting-none (textOf b) (length t) (omega (arith, text-length b))
 
-  pub short-count : 0 ≡ length (fitting (length t) (textOf b))
+  pub short-count : 0 ≡ length (fitting (textOf b) (length t))
   short-count = rw nothing
 
-  pub short-lent : t ≡ front (fitting (length t) (textOf b)) t
+  pub short-lent : t ≡ front (fitting (textOf b) (length t)) t
   unfolding front
   short-lent = rw nothing
 
@@ -56,15 +46,15 @@ module _ (b t l : List ℕ) (c : ℕ) (room : length b + 2 ≤ (length t + 1) / 
       ∙ length-set (putMid 1 (length (set t 0 c) - 1) (set t 0 c) l) (2 * length b + 1) x
       ∙ kept
 
-  whole : fitting (length t) (textOf b) ≡ textOf b
-  whole = fitting-all (length t) (textOf b) (omega (arith, text-length b))
+  whole : fitting (textOf b) (length t) ≡ textOf b
+  whole = fitting-all (textOf b) (length t) (omega (arith, text-length b))
 
-  pub text-count : 2 * length b + 1 + 2 ≡ length (fitting (length t) (textOf b))
+  pub text-count : 2 * length b + 1 + 2 ≡ length (fitting (textOf b) (length t))
   text-count = rw whole (omega (arith, text-length b))
 
   -- the three are `:`, CR and LF
   pub text-lent : (x y : ℕ) → c ≡ 0x3A → x ≡ 0x0D → y ≡ 0x0A
-      → set (set (putMid 1 (length (set t 0 c) - 1) (set t 0 c) l) (2 * length b + 1) x) (2 * length b + 1 + 1) y ≡ front (fitting (length t) (textOf b)) t
+      → set (set (putMid 1 (length (set t 0 c) - 1) (set t 0 c) l) (2 * length b + 1) x) (2 * length b + 1 + 1) y ≡ front (fitting (textOf b) (length t)) t
   unfolding textOf
   text-lent x y colon cr lf =
       rw whole

@@ -60,9 +60,9 @@ ascii = record { start = 0x3A; formed = formed; viable = viable }
 unfoldable pub asciiOf : ℕ → List ℕ → List ℕ
 asciiOf address unit = textOf ((address ∷ unit) ++ lrcOf (address ∷ unit) ∷ [])
 
--- a message's address, and its data unit: what is behind the address, without the LRC
-unfoldable pub addressIn : List ℕ → ℕ
-addressIn m = getD (bytesIn m) 0 0
+-- the address among a message's bytes, and its data unit: what is behind the address, without the LRC
+abbrev pub addressAmong : List ℕ → ℕ
+addressAmong bytes = getD bytes 0 0
 
-unfoldable pub unitIn : List ℕ → List ℕ
-unitIn m = drop 1 (take (length (bytesIn m) - 1) (bytesIn m))
+unfoldable pub unitAmong : List ℕ → List ℕ
+unitAmong bytes = drop 1 (take (length bytes - 1) bytes)

@@ -4,17 +4,16 @@ use modbus::Answer;
 use modbus::put_body;
 ghost use mathlib.Core.Path.{_≡_};
 ghost use lib.ListN.{length};
-ghost use Rattle.base.specs.Buffers.{front};
+ghost use Rattle.base.specs.Buffers.{front, fitting};
 ghost use Rattle.modbus.specs.Answer.{unitOf};
 ghost use Rattle.modbus.specs.Reply.{replyIn};
 ghost use Rattle.ascii.specs.Ascii.{textOf, asciiOf};
-ghost use Rattle.ascii.specs.Text.{fitting};
 
 // Puts the message of `bytes`, the LRC among them, at the start of `text` and tells its length. A text that is too short is left as it is, and the
 // length is 0.
 pub fn put_text(bytes: &[u8], text: &mut [u8]) -> usize
-    ensures count { λ r. ⌜ r ≡ length (fitting (length (now (text .entry))) (textOf (now (bytes .entry)))) ⌝ }
-    ensures lent { λ _. ⌜ now (text .exit) ≡ front (fitting (length (now (text .entry))) (textOf (now (bytes .entry)))) (now (text .entry)) ⌝ }
+    ensures count { λ r. ⌜ r ≡ length (fitting (textOf (now (bytes .entry))) (length (now (text .entry)))) ⌝ }
+    ensures lent { λ _. ⌜ now (text .exit) ≡ front (fitting (textOf (now (bytes .entry))) (length (now (text .entry)))) (now (text .entry)) ⌝ }
 {
     if (text.len() + 1) / 2 < bytes.len() + 2 {
         return 0;

@@ -3,15 +3,14 @@ use mathlib.Core.Path.{_≡_, refl, ap, _∙_}
 use mathlib.Core.List.{List}
 use Prim.Native.Nat.{ℕ, _-_, _≤_, _<_}
 use native.Mathlib.Omega.{arith}
-use lib.ListN.{length, getD, take, drop, length-append}
+use lib.ListN.{length, take, drop, length-append}
 use Rattle.base.specs.Buffers.{front}
 use Rattle.base.proofs.Sets.{take-front}
 use Rattle.pending.specs.Scanning.{scanIn}
 use Rattle.pending.specs.declared.Scanned.{Scanned}
 use Rattle.pending.specs.Held.{held}
-use Rattle.ascii.specs.Ascii.{bytesIn}
+use Rattle.ascii.specs.Ascii.{bytesIn, addressAmong, unitAmong}
 use Rattle.ascii.proofs.Replies as Replies
-use Rattle.ascii_scan.specs.Parts.{unitAmong}
 use Rattle.port.specs.Port.{Numbers}
 use Rattle.drive.specs.Plant.{Plant}
 use Rattle.modbus_service.specs.Reply.{exchangedIn, exchanged}
@@ -30,7 +29,7 @@ use Rattle.ascii_port.specs.Receive.{exchangeOn, replyText, answeredBy, 
 
 -- ---- a message's bytes are served: the plant and the port are `p′` and `q′` then, and the port `q″` after the message
 module _ (held : List ℕ) (q q′ q″ : Numbers) (p p′ : Plant) (scan : Scanned) (message unit : List ℕ) (address : ℕ) (e : Exchange) (n : ℕ) (out before : List ℕ)
-    (from : address ≡ getD message 0 0) (has : unit ≡ unitAmong message) (serves : exchangedIn p′ q′ e ≡ exchanged p q address unit)
+    (from : address ≡ addressAmong message) (has : unit ≡ unitAmong message) (serves : exchangedIn p′ q′ e ≡ exchanged p q address unit)
     (leaves : q″ ≡ portAfter (e .answer) q′)
     (puts : (n ≡ length (replyText address (e .reply))) × (out ≡ front (replyText address (e .reply)) before)) where
   pub answers : Does (turnIn held q″ p′ (record { pending = 0; outcome = Outcomes.Served (e .answer); used = scan .used; len = n })) out
@@ -69,4 +68,4 @@ module _ (c : Card) (bytes : List ℕ) (room : ℕ) where
 
   pub ascii-short : length (asciiReceived c bytes room .reply) ≤ 19
   unfolding asciiReceived
-  ascii-short = streamed-short asciiStream c bytes room 19 (λ scan. text-short (getD (bytesIn (held (scan .pending))) 0 0) (exchangeOn c (bytesIn (held (scan .pending))) .reply))
+  ascii-short = streamed-short asciiStream c bytes room 19 (λ scan. text-short (addressAmong (bytesIn (held (scan .pending)))) (exchangeOn c (bytesIn (held (scan .pending))) .reply))

@@ -1,12 +1,10 @@
 -- A call on bytes of Modbus ASCII: the stream call of its messages. Assumes nothing.
 use mathlib.Core.List.{List}
 use Prim.Native.Nat.{ℕ}
-use lib.ListN.{getD}
 use Rattle.pending.specs.Held.{held}
 use Rattle.pending.specs.Scanning.{Scan}
-use Rattle.ascii.specs.Ascii.{bytesIn, asciiOf}
+use Rattle.ascii.specs.Ascii.{bytesIn, asciiOf, addressAmong, unitAmong}
 use Rattle.ascii_scan.specs.Scan.{feeding}
-use Rattle.ascii_scan.specs.Parts.{unitAmong}
 use Rattle.modbus_service.specs.Reply.{sentBy, Exchanged, exchanged}
 use Rattle.modbus_service.specs.declared.Reply.{Reply}
 use Rattle.card.specs.declared.state.Card.{Card}
@@ -15,14 +13,14 @@ use Rattle.turn.specs.Stream.{Stream, streamed}
 
 -- what a message comes to, on this card: its first byte is the address, its last the LRC, and between them stands the data unit
 abbrev pub exchangeOn : Card → List ℕ → Exchanged
-exchangeOn c message = exchanged (c .plant) (c .port .numbers) (getD message 0 0) (unitAmong message)
+exchangeOn c message = exchanged (c .plant) (c .port .numbers) (addressAmong message) (unitAmong message)
 
 -- the reply's text, from the request's address
 abbrev pub replyText : ℕ → Reply → List ℕ
 replyText = sentBy asciiOf
 
 abbrev pub replyOn : Card → List ℕ → List ℕ
-replyOn c message = replyText (getD message 0 0) (exchangeOn c message .reply)
+replyOn c message = replyText (addressAmong message) (exchangeOn c message .reply)
 
 abbrev pub answeredBy : Card → Scan → List ℕ → Received
 answeredBy c scan message = answered (scan .pending) (scan .used) (exchangeOn c message .served) (replyOn c message)

@@ -5,16 +5,16 @@ use mathlib.Core.List.{List, map}
 use Prim.Native.Nat.{ℕ}
 use Rattle.hex.specs.Hex.{isHex, digitValue, digitOf, pairValue, bytesOf}
 use Rattle.checks.specs.Lrc.{sumOf, addsToZero, lrcOf}
-use Rattle.pending.specs.Held.{held, empty, emptied, pushed, restarted}
+use Rattle.pending.specs.Held.{held, empty, emptied, pushed, beganWith}
 use Rattle.pending.specs.Scanning.{Scan, scanFrom}
 use Rattle.ascii.specs.Ascii.{bytesIn, counted, right}
 use Rattle.ascii_scan.specs.Scan.{ended, digitFits, crFits, goesOn, again, ends, fed, feeding}
 use Rattle.ascii_scan.specs.Cases.{scans}
 
 -- the scan of a row's bytes, as the row tells it
-abbrev told : List ℕ → Scan → List ℕ × ℕ × Bool × List ℕ
-told bytes r = (bytes, r .used, r .taken, bytesIn (held (r .pending)))
+abbrev shown : List ℕ → Scan → List ℕ × ℕ × Bool × List ℕ
+shown bytes r = (bytes, r .used, r .taken, bytesIn (held (r .pending)))
 
-pub scans-told : map (λ (t : List ℕ × ℕ × Bool × List ℕ). told (t .0) (scanFrom feeding empty 0 (t .0))) scans ≡ scans
-unfolding scanFrom ends fed ended goesOn digitFits crFits again held empty emptied pushed restarted isHex digitValue digitOf pairValue bytesOf bytesIn counted right addsToZero sumOf lrcOf
+pub scans-told : map (λ (t : List ℕ × ℕ × Bool × List ℕ). shown (t .0) (scanFrom feeding empty 0 (t .0))) scans ≡ scans
+unfolding scanFrom ends fed ended goesOn digitFits crFits again held empty emptied pushed beganWith isHex digitValue digitOf pairValue bytesOf bytesIn counted right addsToZero sumOf lrcOf
 scans-told = refl

@@ -15,8 +15,7 @@ use Rattle.hex.specs.declared.Pair.{Pair}
 use Rattle.hex.specs.declared.Pair.the-variants.{Byte, NoByte}
 use Rattle.hex.proofs.Laws.{Decoding, decode-again, spoilt, no-pair}
 use Rattle.hex.proofs.RoundTrip.{length-bytes}
-use Rattle.ascii.specs.Ascii.{bytesIn}
-use Rattle.ascii_scan.specs.Parts.{unitAmong}
+use Rattle.ascii.specs.Ascii.{bytesIn, unitAmong}
 use Rattle.ascii_scan.proofs.Summed.{part-bytes}
 
 -- ---- no byte is held

@@ -15,9 +15,9 @@ use Rattle.stream.specs.Scanned.{scanned}
 use Rattle.stream.proofs.Scanned.{further-none}
 use Rattle.hex.specs.Hex.{isHex}
 use Rattle.pending.specs.declared.Pending.{Pending}
-use Rattle.pending.specs.Held.{held, Sized, emptied, pushed, restarted}
+use Rattle.pending.specs.Held.{held, Sized, emptied, pushed, beganWith}
 use Rattle.pending.specs.Scanning.{scanFrom, seenIn, Follows}
-use Rattle.pending.proofs.Laws.{sized-emptied, sized-pushed, sized-restarted, held-emptied, held-pushed, held-restarted}
+use Rattle.pending.proofs.Laws.{sized-emptied, sized-pushed, sized-began-with, held-emptied, held-pushed, held-began-with}
 use Rattle.pending.proofs.Scans.{scan-follows}
 use Rattle.ascii.specs.Ascii.{bytesIn, formed, viable, ascii}
 use Rattle.ascii.proofs.Lawful.{ascii-lawful}
@@ -29,7 +29,7 @@ use Rattle.ascii_scan.proofs.Beginning.{held-count, ended-held, goes-vi
 -- ---- the array keeps its length
 again-sized : (p : Pending) (b : ℕ) → Sized p → Sized (again p b)
 unfolding again
-again-sized p b h = pick-both Sized (eqb b 0x3A) (λ e. sized-restarted p b h) (λ e. sized-emptied p h)
+again-sized p b h = pick-both Sized (eqb b 0x3A) (λ e. sized-began-with p b h) (λ e. sized-emptied p h)
 
 fed-sized : (p : Pending) (b : ℕ) → Sized p → Sized (fed p b)
 unfolding fed
@@ -43,8 +43,8 @@ held-again : (p : Pending) (s : List ℕ) (b : ℕ) → Sized p → held (again 
 unfolding again
 held-again p s b size = rw (first-viable b) (go (eqb b 0x3A))
   where
-    go : (t : Bool) → held (pick t (restarted p b) (emptied p)) ≡ turn false false t 0 s b .pending
-    go true = held-restarted p b size
+    go : (t : Bool) → held (pick t (beganWith p b) (emptied p)) ≡ turn false false t 0 s b .pending
+    go true = held-began-with p b size
     go false = held-emptied p
 
 -- behind nothing, a byte is looked at as a beginning of its own

@@ -14,11 +14,10 @@ use Rattle.pending.specs.declared.Pending.{Pending}
 use Rattle.pending.specs.Held.{held, Sized}
 use Rattle.pending.specs.Scanning.{scanFrom}
 use Rattle.pending.proofs.Scans.{scan-leaves}
-use Rattle.ascii.specs.Ascii.{textOf, bytesIn, formed, viable, ascii, addressIn, unitIn}
+use Rattle.ascii.specs.Ascii.{textOf, bytesIn, formed, viable, ascii, addressAmong, unitAmong}
 use Rattle.ascii.proofs.Message.{cr-none, hex-bytes, text-bytes, Message, message-out}
 use Rattle.ascii.proofs.Lawful.{ascii-lawful}
 use Rattle.ascii_scan.specs.Scan.{messageIn, feeding}
-use Rattle.ascii_scan.specs.Parts.{unitAmong}
 use Rattle.ascii_scan.proofs.Follows.{ascii-follows}
 
 -- the bytes that the code decodes of the text of some bytes are these
@@ -45,16 +44,15 @@ module _ (p : Pending) (e : formed (messageIn p) ≡ true) where
   pub message-count : (3 ≤ length (bytesIn (held p))) × (length (bytesIn (held p)) ≤ 255)
   message-count = (omega (arith, ap length spelt, message .low), omega (arith, ap length spelt, message .high))
 
-  pub unit-held : unitAmong (bytesIn (held p)) ≡ unitIn (messageIn p)
-  unfolding unitAmong unitIn
-  unit-held = ap (λ (b : List ℕ). drop 1 (take (length b - 1) b)) message-held
+  pub unit-held : unitAmong (bytesIn (held p)) ≡ unitAmong (bytesIn (messageIn p))
+  unit-held = ap unitAmong message-held
 
   -- the address is the first byte that was put into the array o
-  pub address-held : (o : List ℕ) → getD (front (bytesIn (held p)) o) 0 0 ≡ addressIn (messageIn p)
-  unfolding front addressIn
+  pub address-held : (o : List ℕ) → getD (front (bytesIn (held p)) o) 0 0 ≡ addressAmong (bytesIn (messageIn p))
+  unfolding front
   address-held o =
       List·getD-append (bytesIn (held p)) (drop (length (bytesIn (held p))) o) 0 0 (omega (arith, message-count .0))
-      ∙ ap (λ (b : List ℕ). getD b 0 0) message-held
+      ∙ ap addressAmong message-held
 
 -- what is decoded is bytes, whatever is held
 pub decoded-below : (m : List ℕ) → Bytes (bytesIn m)

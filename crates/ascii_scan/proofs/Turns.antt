@@ -16,7 +16,7 @@ use Rattle.hex.specs.Hex.{isHex, digitValue, digitOf}
 use Rattle.hex.proofs.RoundTrip.{isValue, hex-is-value, value-hex, cr-not-hex}
 use Rattle.checks.specs.Lrc.{lrcOf}
 use Rattle.pending.specs.declared.Pending.{Pending}
-use Rattle.pending.specs.Held.{held, emptied, pushed, restarted}
+use Rattle.pending.specs.Held.{held, emptied, pushed, beganWith}
 use Rattle.pending.specs.Scanning.{Scan, scanFrom, scanOn}
 use Rattle.pending.proofs.Scans.{Scanning, scan-turn, scan-after}
 use Rattle.ascii.specs.Ascii.{bytesIn}
@@ -71,7 +71,7 @@ abbrev over : Pending → Pending
 over p = record { bytes = p .bytes; len = 0 }
 
 again-over : (p : Pending) (b : ℕ) → again (over p) b ≡ again p b
-unfolding again emptied restarted
+unfolding again emptied beganWith
 again-over p b = refl
 
 module _ (p q : Pending) (b : ℕ) (t : Bool) (e : t ≡ ended p) where

@@ -1,4 +1,3 @@
 pub mod Pairs
 pub mod Scan
-pub mod Parts
 pub mod Cases

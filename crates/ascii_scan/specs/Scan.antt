@@ -10,7 +10,7 @@ use Rattle.base.specs.Choice.{pick, both}
 use Rattle.hex.specs.Hex.{isHex, digitOf}
 use Rattle.checks.specs.Lrc.{lrcOf}
 use Rattle.pending.specs.declared.Pending.{Pending}
-use Rattle.pending.specs.Held.{held, emptied, pushed, restarted}
+use Rattle.pending.specs.Held.{held, emptied, pushed, beganWith}
 use Rattle.pending.specs.Scanning.{Feeding}
 use Rattle.ascii.specs.Ascii.{bytesIn, right}
 
@@ -33,7 +33,7 @@ goesOn p b = pick (isHex b) (digitFits (p .len) (lrcOf (bytesIn (held p))) b) (b
 
 -- a byte that spoils what is pending is looked at again, as a beginning of its own
 unfoldable pub again : Pending → ℕ → Pending
-again p b = pick (eqb b 0x3A) (restarted p b) (emptied p)
+again p b = pick (eqb b 0x3A) (beganWith p b) (emptied p)
 
 -- ".. CR LF": after CR only LF goes on, and it ends the message
 unfoldable pub ends : Pending → ℕ → Bool

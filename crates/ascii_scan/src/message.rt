@@ -7,8 +7,7 @@ ghost use lib.ListN.{length, take};
 ghost use lib.Seq.{sets};
 ghost use Rattle.base.specs.Buffers.{front};
 ghost use Rattle.hex.specs.Hex.{bytesOf};
-ghost use Rattle.ascii.specs.Ascii.{bytesIn};
-ghost use Rattle.ascii_scan.specs.Parts.{unitAmong};
+ghost use Rattle.ascii.specs.Ascii.{bytesIn, unitAmong};
 
 // Puts the bytes that the pairs of the message in the first `n` bytes of `held` spell at the start of `out`, the LRC last, and tells how many there are. Other bytes held are read
 // the same way, from the second on and up to the first pair that spells no byte.

@@ -4,8 +4,8 @@ use crate::pairs::cr_fits;
 use crate::pairs::digit_fits;
 use hex::Digit;
 use pending::Scanned;
+use pending::begin_with;
 use pending::push;
-use pending::restart;
 ghost use mathlib.Core.Path.{_≡_};
 ghost use mathlib.Core.Bool.{false};
 ghost use Prim.Native.Nat.{_≤_, _<_, min};
@@ -118,7 +118,7 @@ fn begin(held: &mut [u8; 512], b: u8) -> usize
     ensures { λ r. ⌜ record { bytes = now (held .exit); len = r } ≡ again (record { bytes = now (held .entry); len = 0 }) b ⌝ }
 {
     if b == b':' {
-        return restart(held, b);
+        return begin_with(held, b);
     }
     0
 }

@@ -36,10 +36,10 @@ pub not-no : (a : Bool) → a ≡ true → not a ≡ false
 not-no a e = simp e
 
 -- what a call told of its result, and what a branch on the result showed
-pub told : (s t r : Bool) → r ≡ s → r ≡ t → s ≡ t
-told s t r p q = sym p ∙ q
+pub same-as-both : (s t r : Bool) → r ≡ s → r ≡ t → s ≡ t
+same-as-both s t r p q = sym p ∙ q
 
-pub ruleset tests = (pick-yes, pick-no, both-yes, both-no, either-yes, either-no, not-yes, not-no, lt-ltb, le-ltb, le-leb, lt-leb, eq-eqb, ne-eqb, not-true, not-false, told)
+pub ruleset tests = (pick-yes, pick-no, both-yes, both-no, either-yes, either-no, not-yes, not-no, lt-ltb, le-ltb, le-leb, lt-leb, eq-eqb, ne-eqb, not-true, not-false, same-as-both)
 
 -- ---- what joined tests tell
 pub both-out : (a b : Bool) → both a b ≡ true → (a ≡ true) × (b ≡ true)

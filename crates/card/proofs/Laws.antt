@@ -14,7 +14,7 @@ use Rattle.drive.specs.Events.{Event, raised, ended, portFault, withActive, wit
 use Rattle.pending.specs.declared.Pending.{Pending}
 use Rattle.pending.specs.Held as Held
 use Rattle.card.specs.State.{Core, coreOf, protocolOf, withCore, withPlant, protocolNumber, started, restarted}
-use Rattle.card.specs.Events.{Ticked, eventOutcome, told, faultRaised, causeEnded, happened, din1Set, measuredSet, portFaulted, parityTold, counted, tickedIn, ticked}
+use Rattle.card.specs.Events.{Ticked, eventOutcome, eventOn, faultRaised, causeEnded, happened, din1Set, measuredSet, portFaulted, parityTold, counted, tickedIn, ticked}
 use Rattle.card.specs.declared.state.Protocol.{Protocol}
 use Rattle.card.specs.declared.state.Card.{Card}
 use Rattle.card.specs.declared.events.After.{After}
@@ -33,20 +33,20 @@ unfolding restarted
 restarted-of c q p held a b d = rw (a, b, d)
 
 -- ---- events that name a fault: what the event made of the plant, and whether it knew the number
-told-of : (e : Event) (c k : Card) (p : Plant) (known : Bool) (o : Outcome) → record { plant = p; known = known } ≡ e → k ≡ withPlant p c → o ≡ eventOutcome known
-    → record { card = k; outcome = o } ≡ told e c
-unfolding told
-told-of e c k p known o a b d = rw (b, d, ← a)
+event-on-of : (e : Event) (c k : Card) (p : Plant) (known : Bool) (o : Outcome) → record { plant = p; known = known } ≡ e → k ≡ withPlant p c → o ≡ eventOutcome known
+    → record { card = k; outcome = o } ≡ eventOn e c
+unfolding eventOn
+event-on-of e c k p known o a b d = rw (b, d, ← a)
 
 pub raised-of : (c k : Card) (n : ℕ) (p : Plant) (known : Bool) (o : Outcome) → record { plant = p; known = known } ≡ raised n (c .plant) → k ≡ withPlant p c → o ≡ eventOutcome known
     → record { card = k; outcome = o } ≡ faultRaised n c
 unfolding faultRaised
-raised-of c k n p known o = told-of (raised n (c .plant)) c k p known o
+raised-of c k n p known o = event-on-of (raised n (c .plant)) c k p known o
 
 pub ended-of : (c k : Card) (n : ℕ) (p : Plant) (known : Bool) (o : Outcome) → record { plant = p; known = known } ≡ ended n (c .plant) → k ≡ withPlant p c → o ≡ eventOutcome known
     → record { card = k; outcome = o } ≡ causeEnded n c
 unfolding causeEnded
-ended-of c k n p known o = told-of (ended n (c .plant)) c k p known o
+ended-of c k n p known o = event-on-of (ended n (c .plant)) c k p known o
 
 -- ---- events that are never refused
 pub din1-of : (c k : Card) (active : Bool) (p : Plant) → p ≡ withActive active (c .plant) → k ≡ withPlant p c → record { card = k; outcome = Done } ≡ din1Set active c

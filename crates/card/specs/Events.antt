@@ -22,15 +22,15 @@ unfoldable pub eventOutcome : Bool → Outcome
 eventOutcome known = pick known Done NoSuchEvent
 
 -- "Start, restart and each host event hand back the whole state": what the event made of the plant
-unfoldable pub told : Event → Card → After
-told event c = record { card = withPlant (event .plant) c; outcome = eventOutcome (event .known) }
+unfoldable pub eventOn : Event → Card → After
+eventOn event c = record { card = withPlant (event .plant) c; outcome = eventOutcome (event .known) }
 
 -- "The host raises one (both set) or ends a cause (the flag stays)"
 unfoldable pub faultRaised : ℕ → Card → After
-faultRaised n c = told (raised n (c .plant)) c
+faultRaised n c = eventOn (raised n (c .plant)) c
 
 unfoldable pub causeEnded : ℕ → Card → After
-causeEnded n c = told (ended n (c .plant)) c
+causeEnded n c = eventOn (ended n (c .plant)) c
 
 -- ---- events that are never refused
 abbrev pub happened : Plant → Card → After

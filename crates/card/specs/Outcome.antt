@@ -4,10 +4,10 @@ use Rattle.answers.specs.Answer.{answerNumber}
 use Rattle.card.specs.declared.outcome.Outcome.{Outcome}
 use Rattle.card.specs.declared.outcome.Outcome.the-variants.{Done, Served, ShortBuffer, BadFrame, NoSuchEvent, NothingTaken}
 
-abbrev pub numberOf : Outcome → ℕ
-numberOf Done = 0
-numberOf (Served answer) = answerNumber answer
-numberOf ShortBuffer = 10
-numberOf BadFrame = 11
-numberOf NoSuchEvent = 12
-numberOf NothingTaken = 15
+abbrev pub outcomeNumber : Outcome → ℕ
+outcomeNumber Done = 0
+outcomeNumber (Served answer) = answerNumber answer
+outcomeNumber ShortBuffer = 10
+outcomeNumber BadFrame = 11
+outcomeNumber NoSuchEvent = 12
+outcomeNumber NothingTaken = 15

@@ -12,7 +12,7 @@ use table::names::SIO_TOT;
 ghost use mathlib.Core.Path.{_≡_};
 ghost use Prim.Native.Nat.{_+_};
 ghost use Rattle.card.specs.State.{withPlant, withCore};
-ghost use Rattle.card.specs.Events.{happened, eventOutcome, told, faultRaised, causeEnded, din1Set, measuredSet, parityTold, portFaulted, counted, tickedIn, ticked};
+ghost use Rattle.card.specs.Events.{happened, eventOutcome, eventOn, faultRaised, causeEnded, din1Set, measuredSet, parityTold, portFaulted, counted, tickedIn, ticked};
 
 // The card after an event, and the event's outcome.
 pub struct After {

@@ -1,7 +1,7 @@
 // What a call comes to, and document 01's number for it.
 use answers::Answer;
 ghost use mathlib.Core.Path.{_≡_};
-ghost use Rattle.card.specs.Outcome.{numberOf};
+ghost use Rattle.card.specs.Outcome.{outcomeNumber};
 
 // The outcome of a call: what was done, or the reason why nothing was.
 pub enum Outcome {
@@ -22,7 +22,7 @@ pub enum Outcome {
 impl Outcome {
     // Document 01's number.
     pub fn number(self) -> u32
-        ensures { λ r. ⌜ r ≡ numberOf self ⌝ }
+        ensures { λ r. ⌜ r ≡ outcomeNumber self ⌝ }
     {
         match self {
             Outcome::Done => 0,

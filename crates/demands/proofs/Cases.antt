@@ -4,7 +4,7 @@ use mathlib.Core.List.{map}
 use Rattle.table.specs.Table.{rows, lineAt, startWords}
 use Rattle.table.specs.Address.{address, firstRegister}
 use Rattle.table.specs.Find.{firstRow, rowFrom, rowOfE, rowOfSpan}
-use Rattle.allowed.specs.Allowed.{twos, numberOf, within, member, belowLimt, aboveMagn, atMode, setpointAllows, allows, allowedAt}
+use Rattle.allowed.specs.Allowed.{twos, integerOf, within, member, belowLimt, aboveMagn, atMode, setpointAllows, allows, allowedAt}
 use Rattle.hex.specs.Hex.{isHex, allHex, digitValue, digitOf, pairValue, hexOf, bytesOf}
 use Rattle.checks.specs.Bcc.{bccOf}
 use Rattle.checks.specs.Lrc.{addsToZero, lrcOf, sumOf, totalOf}
@@ -32,9 +32,9 @@ use Rattle.modbus_service.specs.Serve as Modbus
 use Rattle.modbus_service.specs.Reply as Answers
 use Rattle.ascii.specs.Ascii.{textOf, bytesIn, counted, right, asciiOf}
 use Rattle.ascii_scan.specs.Scan as Ascii
-use Rattle.ascii_scan.specs.Parts.{unitAmong}
+use Rattle.ascii.specs.Ascii.{unitAmong}
 use Rattle.card.specs.State.{started}
-use Rattle.card.specs.Events.{eventOutcome, told, faultRaised, causeEnded}
+use Rattle.card.specs.Events.{eventOutcome, eventOn, faultRaised, causeEnded}
 use Rattle.turn.specs.Turn.{waiting, cardAfter}
 use Rattle.nfo_port.specs.Receive.{nfoReceived}
 use Rattle.ascii_port.specs.Receive.{asciiReceived}
@@ -42,5 +42,5 @@ use Rattle.receive.specs.Receive.{received}
 use Rattle.demands.specs.Cases.{heard, Case, cases}
 
 pub cases-hold : map (λ (k : Case). heard 3 (k .card) (k .bytes)) cases ≡ map (λ (k : Case). k .right) cases
-unfolding cases rows lineAt startWords address firstRegister firstRow rowFrom rowOfE rowOfSpan twos numberOf within member belowLimt aboveMagn atMode setpointAllows allows allowedAt isHex allHex digitValue digitOf pairValue hexOf bytesOf bccOf addsToZero lrcOf sumOf totalOf Plant.started Flags.flagged Flags.lowestFrom Flags.lowestOf Faults.active Faults.flagStands Faults.flagRaised Faults.runs Faults.statusOf Faults.only14 Faults.stopped Plants.isFault Plants.raised Plants.ended Read.stored Read.told Refusals.readOnly Refusals.boundsOf Refusals.allowed Refusals.held Refusals.permitted Permit.permitOf Write.followed Write.applied Write.written toldServed wroteServed Held.held Held.empty Held.emptied Held.pushed Held.restarted scanFrom enquiry select bccIn Nfo.fitsAt Nfo.stepIn Nfo.stepOf Nfo.again Nfo.ends Nfo.fed valueAt parameterAt messageOf digitsOf bodyOf replyOf ackOf nakOf Serve.toUs Serve.reachesUs Serve.rowNamed Serve.enquiryServed Serve.stops Serve.rowSelected Serve.selectServed Serve.served Reply.repliedBy Reply.replied wordAt wordBytes longBytes asked reads requestOf unitOf Modbus.reachesUs Modbus.taskOf Modbus.done Modbus.served Answers.registersTold Answers.repliedBy Answers.replied Answers.exchanged textOf bytesIn counted right asciiOf Ascii.again Ascii.crFits Ascii.digitFits Ascii.ended Ascii.ends Ascii.fed Ascii.goesOn unitAmong started eventOutcome told faultRaised causeEnded waiting cardAfter nfoReceived asciiReceived received
+unfolding cases rows lineAt startWords address firstRegister firstRow rowFrom rowOfE rowOfSpan twos integerOf within member belowLimt aboveMagn atMode setpointAllows allows allowedAt isHex allHex digitValue digitOf pairValue hexOf bytesOf bccOf addsToZero lrcOf sumOf totalOf Plant.started Flags.flagged Flags.lowestFrom Flags.lowestOf Faults.active Faults.flagStands Faults.flagRaised Faults.runs Faults.statusOf Faults.only14 Faults.stopped Plants.isFault Plants.raised Plants.ended Read.stored Read.told Refusals.readOnly Refusals.boundsOf Refusals.allowed Refusals.initRunning Refusals.permitted Permit.permitOf Write.followed Write.applied Write.written toldServed wroteServed Held.held Held.empty Held.emptied Held.pushed Held.beganWith scanFrom enquiry select bccIn Nfo.fitsAt Nfo.stepIn Nfo.stepOf Nfo.again Nfo.ends Nfo.fed valueAt parameterAt messageOf digitsOf bodyOf replyOf ackOf nakOf Serve.toUs Serve.reachesUs Serve.rowNamed Serve.enquiryServed Serve.stops Serve.rowSelected Serve.selectServed Serve.served Reply.repliedBy Reply.replied wordAt wordBytes longBytes asked reads requestOf unitOf Modbus.reachesUs Modbus.taskOf Modbus.done Modbus.served Answers.registersTold Answers.repliedBy Answers.replied Answers.exchanged textOf bytesIn counted right asciiOf Ascii.again Ascii.crFits Ascii.digitFits Ascii.ended Ascii.ends Ascii.fed Ascii.goesOn unitAmong started eventOutcome told faultRaised causeEnded waiting cardAfter nfoReceived asciiReceived received
 cases-hold = refl

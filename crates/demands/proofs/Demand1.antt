@@ -16,8 +16,8 @@ use Rattle.drive.specs.Plant.{Plant}
 use Rattle.drive.specs.Events.{isFault, event, raised, ended}
 use Rattle.nfo_service.specs.Reply as NfoReply
 use Rattle.card.specs.State.{Core, coreOf, withCore, withPlant}
-use Rattle.card.specs.Events.{eventOutcome, told, faultRaised, causeEnded, din1Set, measuredSet, parityTold, counted, Ticked, tickedIn, ticked}
-use Rattle.card.specs.Outcome.{numberOf}
+use Rattle.card.specs.Events.{eventOutcome, eventOn, faultRaised, causeEnded, din1Set, measuredSet, parityTold, counted, Ticked, tickedIn, ticked}
+use Rattle.card.specs.Outcome.{outcomeNumber}
 use Rattle.card.specs.declared.state.Card.{Card}
 use Rattle.card.specs.declared.events.After.{After}
 use Rattle.card.specs.declared.outcome.Outcome.the-variants.{Done, NoSuchEvent}
@@ -50,7 +50,7 @@ receiving : Receiving
 receiving =
     record {
       within = λ c bytes room. (received-used c bytes room, reply-fits c bytes room);
-      number = λ c bytes room n. gives numberOf (callOrder c bytes room) (numberIn (received c bytes room)) n (received-number c bytes room);
+      number = λ c bytes room n. gives outcomeNumber (callOrder c bytes room) (numberIn (received c bytes room)) n (received-number c bytes room);
       nfo-nothing = nfo-nothing;
       ascii-nothing = ascii-nothing;
       leaves = λ c bytes room. received-leaves c bytes room;
@@ -63,18 +63,18 @@ after t c d = pick t (record { card = c; outcome = NoSuchEvent }) (record { card
 
 refuses : (t : Bool) (c d : Card) (a : After) → a ≡ after t c d → Refuses t c a
 refuses true c d a e =
-    (λ n. gives numberOf (when true NoSuchEvent ∷ []) (numberOf (a .outcome)) n (ap (λ (x : After). numberOf (x .outcome)) e), λ _. ap (λ (x : After). x .card) e)
+    (λ n. gives outcomeNumber (when true NoSuchEvent ∷ []) (outcomeNumber (a .outcome)) n (ap (λ (x : After). outcomeNumber (x .outcome)) e), λ _. ap (λ (x : After). x .card) e)
 refuses false c d a e = (
-  λ n. gives numberOf (when false NoSuchEvent ∷ []) (numberOf (a .outcome)) n (ap (λ (x : After). numberOf (x .outcome)) e),
-  λ h. let z : numberOf (a .outcome) ≡ 0 = ap (λ (x : After). numberOf (x .outcome)) e in absurd (omega (arith, z, h)),
+  λ n. gives outcomeNumber (when false NoSuchEvent ∷ []) (outcomeNumber (a .outcome)) n (ap (λ (x : After). outcomeNumber (x .outcome)) e),
+  λ h. let z : outcomeNumber (a .outcome) ≡ 0 = ap (λ (x : After). outcomeNumber (x .outcome)) e in absurd (omega (arith, z, h)),
 )
 
 -- a known fault
-tells : (n : ℕ) (p : Plant) (c : Card) → Refuses (not (isFault n)) c (told (event n p (c .plant)) c)
-unfolding told eventOutcome
-tells n p c = refuses (not (isFault n)) c (withPlant p c) (told (event n p (c .plant)) c) (go (isFault n))
+tells : (n : ℕ) (p : Plant) (c : Card) → Refuses (not (isFault n)) c (eventOn (event n p (c .plant)) c)
+unfolding eventOn eventOutcome
+tells n p c = refuses (not (isFault n)) c (withPlant p c) (eventOn (event n p (c .plant)) c) (go (isFault n))
   where
-    go : (t : Bool) → told (pick t (record { plant = p; known = true }) (record { plant = c .plant; known = false })) c ≡ after (not t) c (withPlant p c)
+    go : (t : Bool) → eventOn (pick t (record { plant = p; known = true }) (record { plant = c .plant; known = false })) c ≡ after (not t) c (withPlant p c)
     go true = refl
     go false = refl
 

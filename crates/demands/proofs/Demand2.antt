@@ -13,7 +13,7 @@ use Rattle.rtu.specs.Rtu.{addressIn, unitIn}
 use Rattle.rtu.proofs.RoundTrip.{own-address}
 use Rattle.ascii.specs.Ascii as Text
 use Rattle.ascii.proofs.Lawful.{ascii-lawful}
-use Rattle.ascii_scan.specs.Parts.{unitAmong}
+use Rattle.ascii.specs.Ascii.{unitAmong}
 use Rattle.modbus_service.specs.Reply.{exchanged}
 use Rattle.modbus_service.specs.declared.Reply.the-variants.{Data}
 use Rattle.modbus_service.proofs.Fitting.{from-us}
@@ -41,7 +41,7 @@ frame-read address ask registers e c p room h =
     by-rtu c (frame address ask registers) room p ∙ simp (le-ltb room 19 h, Frames.asked-holds address ask registers e)
 
 requests : Requests
-unfolding Text.addressIn Text.unitIn unitAmong
+unfolding unitAmong
 requests =
     record {
       enquiry = λ address e can h.

@@ -26,7 +26,7 @@ use Rattle.drive.specs.Events.{isFault, Event, raised, ended, portFault, withAc
 use Rattle.drive.specs.declared.events.Measured.{Measured}
 use Rattle.drive.specs.declared.events.Measured.the-variants.{Frq, Rms, Optime}
 use Rattle.reading.specs.Read.{Told, told}
-use Rattle.permit.specs.Refusals.{readOnly, allowed, held, permitted}
+use Rattle.permit.specs.Refusals.{readOnly, allowed, initRunning, permitted}
 use Rattle.permit.specs.Permit.{permitOf}
 use Rattle.permit.specs.declared.Permit.{Permit}
 use Rattle.service.specs.Write.{followed, applied, after, written}
@@ -165,7 +165,7 @@ module _ (p : Plant) (keep : Allowed p) (row w : ℕ) where
   written-keeps =
       pick-both After (readOnly row) (λ _. keep)
       (λ _. pick-both After (not (allowed p row w)) (λ _. keep)
-      (λ can. pick-both After (flagStands p) (λ _. keep) (λ _. pick-both After (held p row) (λ _. keep)
+      (λ can. pick-both After (flagStands p) (λ _. keep) (λ _. pick-both After (initRunning p row) (λ _. keep)
       (λ _. pick-both After (not (permitted p row w)) (λ _. keep) (λ _. applied-keeps (not-false (allowed p row w) can))))))
     where
       After : Permit → Type 0
@@ -230,11 +230,11 @@ unfolding flagRaised
 raised-flag mask p keep = scmd-keeps _ (other-keeps p Flags _ keep refl)
 
 raise-keeps : (n : ℕ) (c : Card) → Addressed c → Addressed (Events.faultRaised n c .card)
-unfolding Events.faultRaised Events.told raised
+unfolding Events.faultRaised Events.eventOn raised
 raise-keeps n c keep = pick-both (λ (e : Event). Allowed (e .plant)) (isFault n) (λ _. other-keeps _ Causes _ (raised-flag _ (c .plant) keep) refl) (λ _. keep)
 
 end-keeps : (n : ℕ) (c : Card) → Addressed c → Addressed (Events.causeEnded n c .card)
-unfolding Events.causeEnded Events.told ended
+unfolding Events.causeEnded Events.eventOn ended
 end-keeps n c keep = pick-both (λ (e : Event). Allowed (e .plant)) (isFault n) (λ _. other-keeps (c .plant) Causes _ keep refl) (λ _. keep)
 
 din1-keeps : (active : Bool) (c : Card) → Addressed c → Addressed (Events.din1Set active c .card)

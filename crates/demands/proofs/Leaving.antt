@@ -31,7 +31,7 @@ use Rattle.card.specs.State.{protocolOf, cardSum}
 use Rattle.card.specs.declared.state.Card.{Card}
 use Rattle.rtu.specs.Rtu.{frameHolds, addressIn, unitIn}
 use Rattle.ascii.specs.Ascii.{bytesIn}
-use Rattle.ascii_scan.specs.Parts.{unitAmong}
+use Rattle.ascii.specs.Ascii.{unitAmong}
 use Rattle.modbus_service.specs.Serve as Modbus
 use Rattle.modbus_service.specs.Reply as ModbusReply
 use Rattle.modbus_service.specs.declared.Reply.{Reply}

@@ -28,7 +28,7 @@ use Rattle.nfo_parts.specs.declared.message.Message.the-variants.{Enquiry, Sele
 use Rattle.nfo_parts.specs.declared.message.Value.{Value}
 use Rattle.nfo_parts.specs.Parts.{messageOf}
 use Rattle.nfo_service.specs.Serve as Nfo
-use Rattle.card.specs.Outcome.{numberOf}
+use Rattle.card.specs.Outcome.{outcomeNumber}
 use Rattle.card.specs.State.{protocolOf}
 use Rattle.card.specs.declared.state.Card.{Card}
 use Rattle.card.specs.declared.outcome.Outcome.{Outcome}
@@ -39,7 +39,7 @@ use Rattle.modbus.specs.declared.requests.Request.{Request}
 use Rattle.modbus.specs.declared.requests.Request.the-variants.{Read, One, Many, Malformed, Unknown}
 use Rattle.rtu.specs.Rtu.{frameHolds, addressIn, unitIn}
 use Rattle.ascii.specs.Ascii.{bytesIn}
-use Rattle.ascii_scan.specs.Parts.{unitAmong}
+use Rattle.ascii.specs.Ascii.{unitAmong}
 use Rattle.modbus_service.specs.Serve as Modbus
 use Rattle.modbus_service.specs.Reply.{exchanged}
 use Rattle.turn.specs.Turn.{Received, tooShort, waiting}
@@ -84,7 +84,7 @@ module _ {A : Type 0} (number : A → ℕ) where
       go false e = e
 
 -- the lines of a message, as those of a call
-first-served : (ls : List (Line Answer)) → firstOf (saying numberOf (saying Outcomes.Served ls)) 0 ≡ firstOf (saying answerNumber ls) 0
+first-served : (ls : List (Line Answer)) → firstOf (saying outcomeNumber (saying Outcomes.Served ls)) 0 ≡ firstOf (saying answerNumber ls) 0
 first-served [] = refl
 first-served (l ∷ ls) = ap (pick (l .test) (answerNumber (l .answer))) (first-served ls)
 
@@ -160,14 +160,14 @@ modbus-number p q a u = request-number p q (station p) a (requestOf u) u
 -- ---- a call
 -- a line of the protocol's own, and then the message
 own : (t : Bool) (x y : Received) (o : Outcome) (s : Served) (ls : List (Line Answer)) → x .outcome ≡ Outcomes.Served (s .answer) → y .outcome ≡ o
-    → servedNumber s ≡ firstOf (saying answerNumber ls) 0 → numberIn (pick t x y) ≡ firstOf (saying numberOf (when (not t) o ∷ saying Outcomes.Served ls)) 0
-own true x y o s ls e f h = ap numberOf e ∙ h ∙ sym (first-served ls)
-own false x y o s ls e f h = ap numberOf f
+    → servedNumber s ≡ firstOf (saying answerNumber ls) 0 → numberIn (pick t x y) ≡ firstOf (saying outcomeNumber (when (not t) o ∷ saying Outcomes.Served ls)) 0
+own true x y o s ls e f h = ap outcomeNumber e ∙ h ∙ sym (first-served ls)
+own false x y o s ls e f h = ap outcomeNumber f
 
 -- 10 first, whatever the protocol is
 by-protocol : (t e f : Bool) (s x y z : Received) (ls ms ns : List (Line Outcome)) → numberIn s ≡ 10
-    → numberIn x ≡ firstOf (saying numberOf ls) 0 → numberIn y ≡ firstOf (saying numberOf ms) 0 → numberIn z ≡ firstOf (saying numberOf ns) 0
-    → numberIn (pick e (pick t s x) (pick f (pick t s y) (pick t s z))) ≡ firstOf (saying numberOf (when t Outcomes.ShortBuffer ∷ pick e ls (pick f ms ns))) 0
+    → numberIn x ≡ firstOf (saying outcomeNumber ls) 0 → numberIn y ≡ firstOf (saying outcomeNumber ms) 0 → numberIn z ≡ firstOf (saying outcomeNumber ns) 0
+    → numberIn (pick e (pick t s x) (pick f (pick t s y) (pick t s z))) ≡ firstOf (saying outcomeNumber (when t Outcomes.ShortBuffer ∷ pick e ls (pick f ms ns))) 0
 by-protocol true true f s x y z ls ms ns h p q r = h
 by-protocol true false true s x y z ls ms ns h p q r = h
 by-protocol true false false s x y z ls ms ns h p q r = h
@@ -176,27 +176,27 @@ by-protocol false false true s x y z ls ms ns h p q r = q
 by-protocol false false false s x y z ls ms ns h p q r = r
 
 module _ (c : Card) (bytes : List ℕ) (room : ℕ) where
-  rtu-number : numberIn (pick (frameHolds bytes) (Rtu.taken c bytes) (Rtu.spoilt c (length bytes))) ≡ firstOf (saying numberOf (rtuOrder c bytes)) 0
+  rtu-number : numberIn (pick (frameHolds bytes) (Rtu.taken c bytes) (Rtu.spoilt c (length bytes))) ≡ firstOf (saying outcomeNumber (rtuOrder c bytes)) 0
   unfolding exchanged
   rtu-number =
       own (frameHolds bytes) (Rtu.taken c bytes) (Rtu.spoilt c (length bytes)) Outcomes.BadFrame (Rtu.exchangeOn c bytes .served)
       (modbusOrder (c .plant) (station (c .plant)) (addressIn bytes) (unitIn bytes)) refl refl
       (modbus-number (c .plant) (c .port .numbers) (addressIn bytes) (unitIn bytes))
 
-  ascii-number : (scan : Scan) → numberIn (byScan asciiStream c scan) ≡ firstOf (saying numberOf (asciiOrder c scan)) 0
+  ascii-number : (scan : Scan) → numberIn (byScan asciiStream c scan) ≡ firstOf (saying outcomeNumber (asciiOrder c scan)) 0
   unfolding exchanged waiting
   ascii-number scan =
       let m : List ℕ = bytesIn (held (scan .pending)) in
       own (scan .taken) _ _ Outcomes.NothingTaken (asciiStream .served c (scan .pending)) (modbusOrder (c .plant) (station (c .plant)) (getD m 0 0) (unitAmong m)) refl refl
       (modbus-number (c .plant) (c .port .numbers) (getD m 0 0) (unitAmong m))
 
-  serial-number : (scan : Scan) → numberIn (byScan nfoStream c scan) ≡ firstOf (saying numberOf (serialOrder c scan)) 0
+  serial-number : (scan : Scan) → numberIn (byScan nfoStream c scan) ≡ firstOf (saying outcomeNumber (serialOrder c scan)) 0
   unfolding waiting
   serial-number scan =
       own (scan .taken) _ _ Outcomes.NothingTaken (nfoStream .served c (scan .pending)) (nfoOrder (c .plant) (messageOf (scan .pending .bytes))) refl refl
       (nfo-number (c .plant) (c .port .numbers) (messageOf (scan .pending .bytes)))
 
-  pub received-number : numberIn (received c bytes room) ≡ firstOf (saying numberOf (callOrder c bytes room)) 0
+  pub received-number : numberIn (received c bytes room) ≡ firstOf (saying outcomeNumber (callOrder c bytes room)) 0
   unfolding received Rtu.rtuReceived asciiReceived nfoReceived
   received-number =
       by-protocol (ltb room 19) (eqb (protocolOf c) 1) (eqb (protocolOf c) 2) (tooShort c) _ _ _

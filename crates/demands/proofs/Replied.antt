@@ -27,7 +27,7 @@ use Rattle.modbus_service.specs.declared.Reply.{Reply}
 use Rattle.modbus_service.specs.declared.Reply.the-variants.{Nothing, Data}
 use Rattle.modbus.proofs.Units.{InWidth}
 use Rattle.ascii.specs.Ascii.{bytesIn}
-use Rattle.ascii_scan.specs.Parts.{unitAmong}
+use Rattle.ascii.specs.Ascii.{unitAmong}
 use Rattle.ascii_scan.proofs.Parsed.{decoded-below}
 use Rattle.modbus_service.proofs.Replies.{ReplyIn, reply-in}
 use Rattle.modbus_service.proofs.Fitting.{Made, made, Fits, served-fits}

@@ -12,7 +12,7 @@ use Rattle.base.specs.Order.{Line, firstOf, saying}
 use Rattle.base.proofs.Tests.{pick-both}
 use Rattle.table.specs.Names.{Inv-St-ack, Inv-St, SioErr}
 use Rattle.table.specs.declared.labels.Row.{Row}
-use Rattle.port.specs.Port.{Numbers, Protocol, Sum, Sioerr, protocol, withSum, withSioerr}
+use Rattle.port.specs.Port.{Numbers, ProtocolAt, Sum, Sioerr, protocol, withSum, withSioerr}
 use Rattle.drive.specs.Plant.{Plant, station}
 use Rattle.answers.specs.declared.Answer.{Answer}
 use Rattle.answers.specs.declared.Answer.the-variants as Answers
@@ -67,10 +67,10 @@ module _ (Q : Served → Type 0) (p : Plant) (q : Numbers) (kept : (a : Answer) 
 
 -- ---- the port's protocol
 sum-speaks : (x : ℕ) (q : Numbers) → protocol (withSum x q) ≡ protocol q
-sum-speaks x q = getD-set-other q Sum Protocol x 0 (λ e. absurd (omega (arith, e)))
+sum-speaks x q = getD-set-other q Sum ProtocolAt x 0 (λ e. absurd (omega (arith, e)))
 
 sioerr-speaks : (x : ℕ) (q : Numbers) → protocol (withSioerr x q) ≡ protocol q
-sioerr-speaks x q = getD-set-other q Sioerr Protocol x 0 (λ e. absurd (omega (arith, e)))
+sioerr-speaks x q = getD-set-other q Sioerr ProtocolAt x 0 (λ e. absurd (omega (arith, e)))
 
 pub after-speaks : (a : Answer) (q : Numbers) → protocol (portAfter a q) ≡ protocol q
 after-speaks (Answers.Told row word) q = sum-speaks 0 q

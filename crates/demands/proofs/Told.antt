@@ -21,27 +21,27 @@ use Rattle.nfo_parts.specs.declared.message.Message.{Message}
 use Rattle.nfo_parts.specs.declared.message.Parameter.{Parameter}
 use Rattle.nfo.proofs.Shape.{whole-at}
 use Rattle.nfo.proofs.Lawful.{formed-shape}
-use Rattle.nfo_service.specs.Reply.{adrIn, parameterIn, numberOf, repliedBy, replied}
+use Rattle.nfo_service.specs.Reply.{adrIn, parameterIn, eNumberIn, repliedBy, replied}
 use Rattle.master_nfo.specs.Replies.{readOf}
 use Rattle.master_nfo.proofs.Answered.{reply-read, ack-read, nak-read}
 use Rattle.demands.specs.Demand2.{heardBack}
 
 -- ---- a message has an ADR, and the number of its parameter has four digits
 abbrev Named : Message → Type 0
-Named m = (fits ADR (adrIn m) ≡ true) × (numberOf (parameterIn m) < 65536)
+Named m = (fits ADR (adrIn m) ≡ true) × (eNumberIn (parameterIn m) < 65536)
 
-value-below : (m : List ℕ) (i : ℕ) → numberOf (numberIn (valueAt i m)) < 65536
+value-below : (m : List ℕ) (i : ℕ) → eNumberIn (numberIn (valueAt i m)) < 65536
 unfolding valueAt
 value-below m i = go (pairValue (getD m i 0) (getD m (i + 1) 0)) (pairValue (getD m (i + 2) 0) (getD m (i + 3) 0)) refl refl
   where
-    go : (x y : Pair) → pairValue (getD m i 0) (getD m (i + 1) 0) ≡ x → pairValue (getD m (i + 2) 0) (getD m (i + 3) 0) ≡ y → numberOf (numberIn (wordIn x y)) < 65536
+    go : (x y : Pair) → pairValue (getD m i 0) (getD m (i + 1) 0) ≡ x → pairValue (getD m (i + 2) 0) (getD m (i + 3) 0) ≡ y → eNumberIn (numberIn (wordIn x y)) < 65536
     go (Byte h) (Byte l) p q = omega (arith, pair-below _ _ h p, pair-below _ _ l q)
     go (Byte h) NoByte p q = omega arith
     go NoByte y p q = omega arith
 
-parameter-below : (m : List ℕ) (i : ℕ) → numberOf (parameterAt i m) < 65536
+parameter-below : (m : List ℕ) (i : ℕ) → eNumberIn (parameterAt i m) < 65536
 unfolding parameterAt
-parameter-below m i = pick-both (λ (x : Parameter). numberOf x < 65536) (eqb (getD m i 0) 0x45) (λ _. value-below m (i + 1)) (λ _. omega arith)
+parameter-below m i = pick-both (λ (x : Parameter). eNumberIn x < 65536) (eqb (getD m i 0) 0x45) (λ _. value-below m (i + 1)) (λ _. omega arith)
 
 adr : (m : List ℕ) → formed m ≡ true → fits ADR (getD m 1 0) ≡ true
 unfolding enquiry select
@@ -59,9 +59,9 @@ named m w = pick-both Named (eqb (getD m 2 0) 0x02) (λ _. (adr m w, parameter-b
 abbrev Back : Message → Answer → List ℕ → Type 0
 Back m a bytes = (bytes ≡ []) ⊎ (readOf bytes ≡ heardBack m a)
 
-by-back : (m : Message) (a : Answer) → Named m → Back m a (repliedBy (adrIn m) (numberOf (parameterIn m)) a)
+by-back : (m : Message) (a : Answer) → Named m → Back m a (repliedBy (adrIn m) (eNumberIn (parameterIn m)) a)
 unfolding repliedBy
-by-back m (Answers.Told row word) h = inr (reply-read (adrIn m) (numberOf (parameterIn m)) (word % 65536) (h .0) (h .1) (omega arith))
+by-back m (Answers.Told row word) h = inr (reply-read (adrIn m) (eNumberIn (parameterIn m)) (word % 65536) (h .0) (h .1) (omega arith))
 by-back m (Answers.Written change) h = inr (ack-read (adrIn m) (h .0))
 by-back m Answers.NotOurs h = inl refl
 by-back m (Answers.Refused refusal) h = inr (nak-read (adrIn m) (h .0))

@@ -24,7 +24,7 @@ use Rattle.nfo.proofs.Lawful.{nfo-lawful, nfo-stream}
 use Rattle.nfo.proofs.Follows.{nfo-follows}
 use Rattle.ascii.proofs.Lawful.{ascii-lawful, ascii-stream}
 use Rattle.ascii_scan.proofs.Follows.{ascii-follows}
-use Rattle.card.specs.Outcome.{numberOf}
+use Rattle.card.specs.Outcome.{outcomeNumber}
 use Rattle.card.specs.declared.state.Card.{Card}
 use Rattle.card.specs.declared.outcome.Outcome.the-variants as Outcomes
 use Rattle.turn.specs.Turn.{Received, waiting}
@@ -86,8 +86,8 @@ module _ (F : Format) (L : Lawful F) (T : StreamTheorem F) (G : Feeding) (W : Fo
 
 -- ---- and then the number is 15
 of-scan : (t : Bool) (a : Answer) (x y : Received) → x .outcome ≡ Outcomes.Served a → y .outcome ≡ Outcomes.NothingTaken → (numberIn (pick t x y) ≡ 15) ↔ (t ≡ false)
-of-scan true a x y e f = let n : numberIn x ≡ numberOf (Outcomes.Served a) = ap numberOf e in (λ h. absurd (omega (arith, answer-most a, n, h)), λ h. absurd (true≢false h))
-of-scan false a x y e f = (λ _. refl, λ _. ap numberOf f)
+of-scan true a x y e f = let n : numberIn x ≡ outcomeNumber (Outcomes.Served a) = ap outcomeNumber e in (λ h. absurd (omega (arith, answer-most a, n, h)), λ h. absurd (true≢false h))
+of-scan false a x y e f = (λ _. refl, λ _. ap outcomeNumber f)
 
 module _ (P : Protocol) (S : Stream) (L : Lawful (P .format)) (T : StreamTheorem (P .format)) (W : Follows (P .format) (S .feeding))
     (calls : (c : Card) (x : List ℕ) (room : ℕ) → Speaks P c → received c x room ≡ streamed S c x room) where

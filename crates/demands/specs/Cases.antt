@@ -9,7 +9,7 @@ use Rattle.card.specs.declared.outcome.Outcome.{Outcome}
 use Rattle.card.specs.declared.outcome.Outcome.the-variants.{Done, Served, ShortBuffer, BadFrame, NoSuchEvent, NothingTaken}
 use Rattle.card.specs.State.{started}
 use Rattle.card.specs.Events.{faultRaised, causeEnded}
-use Rattle.card.specs.Outcome.{numberOf}
+use Rattle.card.specs.Outcome.{outcomeNumber}
 use Rattle.turn.specs.Turn.{Received}
 use Rattle.receive.specs.Receive.{received}
 
@@ -32,7 +32,7 @@ telling said flags = record { said = said; flags = flags }
 -- what a call says, before what the later ones say; nothing, where nothing was taken
 abbrev pub saying : Outcome → List ℕ → Told → Told
 saying Done reply later = later
-saying (Served answer) reply later = telling (says (numberOf (Served answer)) reply ∷ later .said) (later .flags)
+saying (Served answer) reply later = telling (says (outcomeNumber (Served answer)) reply ∷ later .said) (later .flags)
 saying ShortBuffer reply later = later
 saying BadFrame reply later = later
 saying NoSuchEvent reply later = later

@@ -23,7 +23,7 @@ use Rattle.nfo_service.specs.Serve as Nfo
 use Rattle.nfo_service.specs.Reply as NfoReply
 use Rattle.card.specs.State.{cardSum}
 use Rattle.card.specs.Events.{faultRaised, causeEnded, din1Set, measuredSet, parityTold, ticked}
-use Rattle.card.specs.Outcome.{numberOf}
+use Rattle.card.specs.Outcome.{outcomeNumber}
 use Rattle.card.specs.declared.state.Card.{Card}
 use Rattle.card.specs.declared.events.After.{After}
 use Rattle.card.specs.declared.outcome.Outcome.the-variants.{Done, NoSuchEvent}
@@ -53,7 +53,7 @@ use Rattle.demands.specs.Demand3.{nfoSerial, modbusAscii, besides}
 
 -- ---- what each number leaves
 abbrev pub numberIn : Received → ℕ
-numberIn r = numberOf (r .outcome)
+numberIn r = outcomeNumber (r .outcome)
 
 -- "what is pending after a taken message is empty"
 abbrev pub Cleared : Received → Type 0
@@ -86,7 +86,7 @@ pub record Receiving : Type 0 where
   -- "No bytes, lengths, numbers or lent buffers can break it": the bytes used are there, and a reply fits
   pub within : (c : Card) (bytes : List ℕ) (room : ℕ) → (received c bytes room .used ≤ length bytes) × (length (received c bytes room .reply) ≤ room)
   -- "Each refusal has document 01's number, is given exactly then": the first line of the order that applies
-  pub number : (c : Card) (bytes : List ℕ) (room n : ℕ) → (numberIn (received c bytes room) ≡ n) ↔ Gives numberOf (callOrder c bytes room) n
+  pub number : (c : Card) (bytes : List ℕ) (room n : ℕ) → (numberIn (received c bytes room) ≡ n) ↔ Gives outcomeNumber (callOrder c bytes room) n
   pub nfo-nothing : NothingTaken nfoSerial
   pub ascii-nothing : NothingTaken modbusAscii
   -- "and leaves settings, drive state and reply buffer as 01 says"
@@ -102,7 +102,7 @@ pub record Replying : Type 0 where
 -- ---- the host's events
 -- "12: host event number not allowed", exactly where the test says so; and then nothing changes
 abbrev pub Refuses : Bool → Card → After → Type 0
-Refuses test c a = ((n : ℕ) → (numberOf (a .outcome) ≡ n) ↔ Gives numberOf (when test NoSuchEvent ∷ []) n) × (numberOf (a .outcome) ≡ 12 → a .card ≡ c)
+Refuses test c a = ((n : ℕ) → (outcomeNumber (a .outcome) ≡ n) ↔ Gives outcomeNumber (when test NoSuchEvent ∷ []) n) × (outcomeNumber (a .outcome) ≡ 12 → a .card ≡ c)
 
 pub record Events : Type 0 where
   -- "Faults 1 to 13 and 16 to 23"

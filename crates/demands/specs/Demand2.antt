@@ -18,13 +18,13 @@ use Rattle.nfo_parts.specs.declared.message.Message.{Message}
 use Rattle.nfo_parts.specs.declared.message.Message.the-variants.{Enquiry, Select}
 use Rattle.nfo_parts.specs.declared.message.Parameter.the-variants.{Number}
 use Rattle.nfo_parts.specs.declared.message.Value.the-variants.{Word}
-use Rattle.nfo_service.specs.Reply.{adrIn, parameterIn, numberOf, replied}
+use Rattle.nfo_service.specs.Reply.{adrIn, parameterIn, eNumberIn, replied}
 use Rattle.modbus.specs.Request.{requestOf}
 use Rattle.modbus.specs.Answer.{unitOf}
 use Rattle.modbus.specs.declared.replies.Answer as Units
 use Rattle.rtu.specs.Rtu.{addressIn, unitIn, rtuOf, registerData}
 use Rattle.ascii.specs.Ascii.{bytesIn, asciiOf}
-use Rattle.ascii_scan.specs.Parts.{unitAmong}
+use Rattle.ascii.specs.Ascii.{unitAmong}
 use Rattle.modbus_service.specs.declared.Reply.the-variants.{Data}
 use Rattle.card.specs.State.{protocolOf}
 use Rattle.card.specs.declared.state.Card.{Card}
@@ -92,7 +92,7 @@ pub record Requests : Type 0 where
 -- ---- "each reply is read back as what was answered"
 -- of NFO serial: the row's E number and word by REPLY, a write by ACK, a refusal by NAK, each from the address that was asked
 abbrev pub heardBack : Message → Answer → Reply
-heardBack m (Answers.Told row word) = Told (adrIn m - 32) (record { 0 = numberOf (parameterIn m) }) (word % 65536)
+heardBack m (Answers.Told row word) = Told (adrIn m - 32) (record { 0 = eNumberIn (parameterIn m) }) (word % 65536)
 heardBack m (Answers.Written change) = Acknowledged (adrIn m - 32)
 heardBack m Answers.NotOurs = NotAReply
 heardBack m (Answers.Refused refusal) = Refused (adrIn m - 32)

@@ -35,7 +35,7 @@ use Rattle.modbus.specs.declared.requests.Request.{Request}
 use Rattle.modbus.specs.declared.requests.Request.the-variants.{Read, One, Many, Malformed, Unknown}
 use Rattle.rtu.specs.Rtu.{frameHolds, addressIn, unitIn}
 use Rattle.ascii.specs.Ascii.{bytesIn}
-use Rattle.ascii_scan.specs.Parts.{unitAmong}
+use Rattle.ascii.specs.Ascii.{unitAmong}
 use Rattle.modbus_service.specs.Serve as Modbus
 use Rattle.nfo_port.specs.Receive.{nfoStream}
 use Rattle.ascii_port.specs.Receive.{asciiStream}

@@ -14,9 +14,9 @@ use Rattle.drive.specs.Plant as Plants
 use Rattle.drive.specs.Events.{Event, raised, ended, withActive, withMeasured}
 use Rattle.drive.specs.declared.events.Measured.{Measured}
 use Rattle.pending.specs.Held.{empty, emptied}
-use Rattle.card.specs.Outcome.{numberOf}
+use Rattle.card.specs.Outcome.{outcomeNumber}
 use Rattle.card.specs.State.{Core, cardOf, protocolNumber, started, restarted}
-use Rattle.card.specs.Events.{Ticked, eventOutcome, told, faultRaised, causeEnded, happened, din1Set, measuredSet, portFaulted, parityTold, tickedIn, ticked}
+use Rattle.card.specs.Events.{Ticked, eventOutcome, eventOn, faultRaised, causeEnded, happened, din1Set, measuredSet, portFaulted, parityTold, tickedIn, ticked}
 use Rattle.card.specs.declared.state.Card.{Card}
 use Rattle.card.specs.declared.state.Protocol.{Protocol}
 use Rattle.card.specs.declared.events.After.{After}
@@ -42,16 +42,16 @@ unfolding restarted emptied
 restarted-in len q p y x a b held = simp (a, b)
 
 -- ---- an event on the plant, and its number
-event-in : (p x : Plant) (e : Event) (known : Bool) (o : Outcome) (r : ℕ) → record { plant = x; known = known } ≡ e → o ≡ eventOutcome known → r ≡ numberOf o → OnPlant (told e) p x r
-unfolding told
-event-in p x e known o r a b d port = simp (← a) (refl, d ∙ ap numberOf b)
+event-in : (p x : Plant) (e : Event) (known : Bool) (o : Outcome) (r : ℕ) → record { plant = x; known = known } ≡ e → o ≡ eventOutcome known → r ≡ outcomeNumber o → OnPlant (eventOn e) p x r
+unfolding eventOn
+event-in p x e known o r a b d port = simp (← a) (refl, d ∙ ap outcomeNumber b)
 
 module _ (p x : Plant) (n : ℕ) (known : Bool) (o : Outcome) (r : ℕ) where
-  pub raised-in : record { plant = x; known = known } ≡ raised n p → o ≡ eventOutcome known → r ≡ numberOf o → OnPlant (faultRaised n) p x r
+  pub raised-in : record { plant = x; known = known } ≡ raised n p → o ≡ eventOutcome known → r ≡ outcomeNumber o → OnPlant (faultRaised n) p x r
   unfolding faultRaised
   raised-in a b d port = event-in p x (raised n p) known o r a b d port
 
-  pub ended-in : record { plant = x; known = known } ≡ ended n p → o ≡ eventOutcome known → r ≡ numberOf o → OnPlant (causeEnded n) p x r
+  pub ended-in : record { plant = x; known = known } ≡ ended n p → o ≡ eventOutcome known → r ≡ outcomeNumber o → OnPlant (causeEnded n) p x r
   unfolding causeEnded
   ended-in a b d port = event-in p x (ended n p) known o r a b d port
 
@@ -69,17 +69,17 @@ unfolding parityTold
 parity-in q p y x a pending = simp (← a) (refl, refl)
 
 pub ticked-in : (q p y x : Plant) (n r : ℕ) (o : Outcome) → _≡_ {A = Ticked} (record { core = record { port = y; plant = x }; outcome = o }) (tickedIn n (record { port = q; plant = p }))
-    → r ≡ numberOf o → OnPort (ticked n) q p y x r
+    → r ≡ outcomeNumber o → OnPort (ticked n) q p y x r
 unfolding ticked
 ticked-in q p y x n r o a d pending = simp (← a) (refl, d)
 
 -- ---- a call on bytes from the line: what the turn and the parts say is what is left
 pub left-in : (held : List ℕ) (len n : ℕ) (q p out before told : List ℕ) (t : Turned) (a : Received) → (turnIn held q p t ≡ turnOf a) × (out ≡ front (a .reply) before)
-    → n ≡ numberOf (t .outcome) → len ≡ t .pending → told ≡ toldIn t → Leaves (cardOf held len q p) n before out told a
+    → n ≡ outcomeNumber (t .outcome) → len ≡ t .pending → told ≡ toldIn t → Leaves (cardOf held len q p) n before out told a
 left-in held len n q p out before told t a e d f g =
     record {
       card-left = ap (λ (k : ℕ). cardOf held k q p) f ∙ ap (λ (u : Turn). u .card) (e .0);
-      number-told = d ∙ ap (λ (u : Turn). numberOf (u .outcome)) (e .0);
+      number-told = d ∙ ap (λ (u : Turn). outcomeNumber (u .outcome)) (e .0);
       reply-lent = e .1;
       counts-told = g ∙ ap (λ (u : Turn). u .used ∷ u .len ∷ []) (e .0);
     }

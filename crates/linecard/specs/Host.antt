@@ -9,7 +9,7 @@ use Rattle.base.specs.Choice.{pick}
 use Rattle.port.specs.Port.{Numbers}
 use Rattle.drive.specs.Plant.{Plant}
 use Rattle.pending.specs.declared.Pending.{Pending}
-use Rattle.card.specs.Outcome.{numberOf}
+use Rattle.card.specs.Outcome.{outcomeNumber}
 use Rattle.card.specs.State.{cardOf, restarted}
 use Rattle.card.specs.declared.events.After.{After}
 use Rattle.card.specs.declared.state.Card.{Card}
@@ -27,7 +27,7 @@ activeOf n = not (eqb n 0)
 
 -- what an event leaves: the card k, and the outcome by document 01's number
 abbrev pub Leaves : After → Card → ℕ → Type 0
-Leaves a k number = (k ≡ a .card) × (number ≡ numberOf (a .outcome))
+Leaves a k number = (k ≡ a .card) × (number ≡ outcomeNumber (a .outcome))
 
 -- an event that touches the plant alone, whatever the port is
 abbrev pub OnPlant : (Card → After) → (before after : Plant) → ℕ → Type 0

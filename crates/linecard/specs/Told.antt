@@ -4,7 +4,7 @@ use mathlib.Core.List.{List, [], _∷_}
 use Prim.Native.Nat.{ℕ}
 use lib.ListN.{length}
 use Rattle.base.specs.Buffers.{front}
-use Rattle.card.specs.Outcome.{numberOf}
+use Rattle.card.specs.Outcome.{outcomeNumber}
 use Rattle.card.specs.declared.state.Card.{Card}
 use Rattle.turn.specs.Turn.{Received}
 use Rattle.turn.specs.declared.Turned.{Turned}
@@ -20,7 +20,7 @@ toldIn t = t .used ∷ t .len ∷ []
 -- what a call leaves in the host's memory: the card, the reply buffer, the bytes used and the reply's length; and the outcome's number
 pub record Leaves (card : Card) (number : ℕ) (before out told : List ℕ) (a : Received) : Type 0 where
   pub card-left : card ≡ a .card
-  pub number-told : number ≡ numberOf (a .outcome)
+  pub number-told : number ≡ outcomeNumber (a .outcome)
   pub reply-lent : out ≡ front (a .reply) before
   pub counts-told : told ≡ toldOf a
 

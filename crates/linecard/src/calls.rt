@@ -6,7 +6,7 @@ use turn::Turned;
 ghost use mathlib.Core.Path.{_≡_};
 ghost use lib.ListN.{length, take, drop, getD};
 ghost use Rattle.card.specs.State.{cardOf};
-ghost use Rattle.card.specs.Outcome.{numberOf};
+ghost use Rattle.card.specs.Outcome.{outcomeNumber};
 ghost use Rattle.nfo_port.specs.Receive.{nfoReceived};
 ghost use Rattle.rtu_port.specs.Receive.{rtuReceived};
 ghost use Rattle.ascii_port.specs.Receive.{asciiReceived};
@@ -16,7 +16,7 @@ ghost use Rattle.linecard.specs.Told.{toldIn, Leaves, placeOf};
 
 // Tells the host what a call came to: how many bytes are pending, the bytes used and the reply's length, and the outcome's number.
 fn tell(turn: Turned, len: &mut usize, told: &mut [usize; 2]) -> u32
-    ensures number { λ r. ⌜ r ≡ numberOf (turn .outcome) ⌝ }
+    ensures number { λ r. ⌜ r ≡ outcomeNumber (turn .outcome) ⌝ }
     ensures pending { λ _. ⌜ now (len .exit) ≡ turn .pending ⌝ }
     ensures told { λ _. ⌜ now (told .exit) ≡ toldIn turn ⌝ }
 {

@@ -7,12 +7,12 @@ use Rattle.base.specs.Buffers.{front, fitting}
 use Rattle.hex.specs.Hex.{digitOf, digitValue, pairValue, hexOf, bytesOf}
 use Rattle.checks.specs.Lrc.{sumOf, addsToZero, lrcOf}
 use Rattle.modbus_words.specs.Words.{wordBytes, wordAt}
-use Rattle.ascii.specs.Ascii.{textOf, bytesIn, counted, right, formed, asciiOf, addressIn, unitIn}
+use Rattle.ascii.specs.Ascii.{textOf, bytesIn, counted, right, formed, asciiOf, unitAmong}
 use Rattle.master.specs.Sent.{bytesSent}
 use Rattle.master_request.specs.declared.Ask.{Ask}
 use Rattle.master_request.specs.Ask.{readSayable, headOf, sayable, requestUnit}
 use Rattle.master_reply.specs.declared.Heard.{Heard}
-use Rattle.master_reply.specs.Reply.{readCount, tellsData, tellsOne, tellsMany, tellsException, told, replyOf, wordsFrom, heardOf}
+use Rattle.master_reply.specs.Reply.{readCount, tellsData, tellsOne, tellsMany, tellsException, unitTells, replyOf, wordsFrom, heardOf}
 use Rattle.master_ascii.specs.Heard.{asciiHeard}
 use Rattle.master_ascii.specs.Cases.{requests, replies}
 
@@ -24,5 +24,5 @@ unfolding bytesSent fitting sayable readSayable requestUnit headOf wordBytes asc
 requests-written = refl
 
 pub replies-read : map (λ (t : List ℕ × Heard). (t .0, asciiHeard (t .0))) replies ≡ replies
-unfolding asciiHeard formed same right counted addsToZero sumOf bytesIn textOf hexOf digitOf bytesOf pairValue digitValue addressIn unitIn heardOf replyOf told tellsData readCount tellsOne tellsMany tellsException wordsFrom wordAt front
+unfolding asciiHeard formed same right counted addsToZero sumOf bytesIn textOf hexOf digitOf bytesOf pairValue digitValue unitAmong heardOf replyOf unitTells tellsData readCount tellsOne tellsMany tellsException wordsFrom wordAt front
 replies-read = refl

@@ -13,7 +13,7 @@ use Rattle.base.proofs.Tests.{is-false, not-both}
 use Rattle.base.proofs.Sets.{take-sets}
 use Rattle.hex.specs.Hex.{bytesOf}
 use Rattle.checks.specs.Lrc.{addsToZero}
-use Rattle.ascii.specs.Ascii.{bytesIn, right, formed, addressIn, unitIn}
+use Rattle.ascii.specs.Ascii.{bytesIn, right, formed, unitAmong}
 use Rattle.ascii.proofs.Message.{counted-in}
 use Rattle.master_reply.specs.declared.Heard.{Heard}
 use Rattle.master_reply.specs.declared.Reply.the-variants.{NotAReply}
@@ -100,7 +100,7 @@ module _ (m : List ℕ) (k : ℕ) (count : k ≡ length (bytesOf (inner m))) (f 
       sum-wrong x h e = no-message m x (by-sum ∙ h) e
 
       pub sum-right : (x : Heard) → addsToZero (take (k - 0) b) ≡ true → x ≡ heardOf (getD b 0 0) (take (k - 1 - 1) (drop 1 b)) → x ≡ asciiHeard m
-      unfolding asciiHeard addressIn unitIn
+      unfolding asciiHeard unitAmong
       sum-right x h e =
           let n : k - 0 ≡ length (bytesIn m) = omega (arith, count, ap length (inner-bytes m f whole)) in
           rw (by-sum ∙ h) (e ∙ ap₂ heardOf (sym (getD-take (k - 0) b 0 0 (omega (arith, three))) ∙ ap (λ (s : List ℕ). getD s 0 0) taken)

@@ -9,12 +9,11 @@ use borrow.Author.Tests.{leb-true, leb-false}
 use lib.Dec.{leb}
 use lib.ListN.{length, take, set, length-set}
 use lib.Seq.{take-suc-set}
-use Rattle.base.specs.Buffers.{front}
+use Rattle.base.specs.Buffers.{front, fitting}
+use Rattle.base.proofs.Sets.{fitting-all, fitting-none}
 use Rattle.checks.specs.Lrc.{lrcOf}
 use Rattle.ascii.specs.Ascii.{textOf, asciiOf}
-use Rattle.ascii.specs.Text.{fitting}
 use Rattle.ascii.proofs.Message.{text-length}
-use Rattle.ascii.proofs.Texts.{fitting-none, fitting-all}
 use Rattle.master.specs.declared.Sent.the-variants.{Written, ShortBuffer}
 use Rattle.master.specs.Sent.{sentOf, bytesSent}
 use Rattle.master.proofs.Sends.{short-sent, short-bytes, written-sent, written-bytes}
@@ -24,12 +23,12 @@ use Rattle.master_request.specs.Ask.{sayable, requestUnit, bodyWith, bodySaid}
 use Rattle.master_request.proofs.Made.{said, first-within, array-length, body-taken}
 
 -- ---- the message m, put into the text t: `put_text` tells its length, or 0
-module _ (m t : List ℕ) (some : 1 ≤ length m) (r : ℕ) (count : r ≡ length (fitting (length t) m)) where
+module _ (m t : List ℕ) (some : 1 ≤ length m) (r : ℕ) (count : r ≡ length (fitting m (length t))) where
   too-short : r ≡ 0 → length t < length m
   too-short e = go (leb (length m) (length t)) refl
     where
       go : (u : Bool) → leb (length m) (length t) ≡ u → length t < length m
-      go true h = absurd (omega (arith, ap length (fitting-all (length t) m (leb-true (length m) (length t) h))))
+      go true h = absurd (omega (arith, ap length (fitting-all m (length t) (leb-true (length m) (length t) h))))
       go false h = leb-false (length m) (length t) h
 
   has-room : (r ≡ 0 → ⊥) → length m ≤ length t
@@ -37,7 +36,7 @@ module _ (m t : List ℕ) (some : 1 ≤ length m) (r : ℕ) (count : r ≡ lengt
     where
       go : (u : Bool) → leb (length m) (length t) ≡ u → length m ≤ length t
       go true h = leb-true (length m) (length t) h
-      go false h = absurd (n (count ∙ ap length (fitting-none (length t) m (leb-false (length m) (length t) h))))
+      go false h = absurd (n (count ∙ ap length (fitting-none m (length t) (leb-false (length m) (length t) h))))
 
 -- ---- the body, its LRC behind it
 module _ (a : ℕ) (ask : Ask) (s : List ℕ) (b : Body) (made : b ≡ bodyWith (bodySaid a ask s)) (some : b .size ≡ 0 → ⊥) where
@@ -57,7 +56,7 @@ module _ (a : ℕ) (ask : Ask) (s : List ℕ) (b : Body) (made : b ≡ bodyWith 
         ∙ ap₂ (λ (p : List ℕ) (y : ℕ). p ++ y ∷ []) (ap (λ (i : ℕ). take i (b .bytes)) n ∙ body) (h ∙ ap lrcOf body))
 
     -- the text t, of which `put_text` told r
-    module _ (t : List ℕ) (r : ℕ) (count : r ≡ length (fitting (length t) (textOf (take (b .size + 1 - 0) (set (b .bytes) (b .size) x))))) where
+    module _ (t : List ℕ) (r : ℕ) (count : r ≡ length (fitting (textOf (take (b .size + 1 - 0) (set (b .bytes) (b .size) x))) (length t))) where
       m : List ℕ
       m = asciiOf a (requestUnit ask s)
 
@@ -65,9 +64,9 @@ module _ (a : ℕ) (ask : Ask) (s : List ℕ) (b : Body) (made : b ≡ bodyWith 
       unfolding m asciiOf
       some-text = omega (arith, text-length ((a ∷ requestUnit ask s) ++ lrcOf (a ∷ requestUnit ask s) ∷ []))
 
-      told : r ≡ length (fitting (length t) m)
+      told : r ≡ length (fitting m (length t))
       unfolding m
-      told = count ∙ ap (λ (y : List ℕ). length (fitting (length t) y)) message
+      told = count ∙ ap (λ (y : List ℕ). length (fitting y (length t))) message
 
       pub text-short : r ≡ 0 → ShortBuffer ≡ sentOf (sayable a ask (length s)) (asciiOf a (requestUnit ask s)) (length t)
       unfolding m
@@ -77,22 +76,22 @@ module _ (a : ℕ) (ask : Ask) (s : List ℕ) (b : Body) (made : b ≡ bodyWith 
       unfolding m
       text-sent n =
           let fits : length m ≤ length t = has-room m t some-text r told n in
-          written-sent (sayable a ask (length s)) m t (said a ask s b made some) fits r (told ∙ ap length (fitting-all (length t) m fits))
+          written-sent (sayable a ask (length s)) m t (said a ask s b made some) fits r (told ∙ ap length (fitting-all m (length t) fits))
 
       -- and which is now z
-      module _ (z : List ℕ) (q : z ≡ front (fitting (length t) (textOf (take (b .size + 1 - 0) (set (b .bytes) (b .size) x)))) t) where
-        stored : z ≡ front (fitting (length t) m) t
+      module _ (z : List ℕ) (q : z ≡ front (fitting (textOf (take (b .size + 1 - 0) (set (b .bytes) (b .size) x))) (length t)) t) where
+        stored : z ≡ front (fitting m (length t)) t
         unfolding m
-        stored = q ∙ ap (λ (y : List ℕ). front (fitting (length t) y) t) message
+        stored = q ∙ ap (λ (y : List ℕ). front (fitting y (length t)) t) message
 
         pub text-short-lent : r ≡ 0 → z ≡ front (bytesSent (sayable a ask (length s)) (asciiOf a (requestUnit ask s)) (length t)) t
         unfolding m
         text-short-lent e =
             let short : length t < length m = too-short m t some-text r told e in
-            stored ∙ ap (λ (y : List ℕ). front y t) (fitting-none (length t) m short ∙ sym (short-bytes (sayable a ask (length s)) m t (said a ask s b made some) short))
+            stored ∙ ap (λ (y : List ℕ). front y t) (fitting-none m (length t) short ∙ sym (short-bytes (sayable a ask (length s)) m t (said a ask s b made some) short))
 
         pub text-lent : (r ≡ 0 → ⊥) → z ≡ front (bytesSent (sayable a ask (length s)) (asciiOf a (requestUnit ask s)) (length t)) t
         unfolding m
         text-lent n =
             let fits : length m ≤ length t = has-room m t some-text r told n in
-            stored ∙ ap (λ (y : List ℕ). front y t) (fitting-all (length t) m fits ∙ sym (written-bytes (sayable a ask (length s)) m t (said a ask s b made some) fits))
+            stored ∙ ap (λ (y : List ℕ). front y t) (fitting-all m (length t) fits ∙ sym (written-bytes (sayable a ask (length s)) m t (said a ask s b made some) fits))

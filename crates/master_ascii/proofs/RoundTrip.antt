@@ -14,7 +14,7 @@ use Rattle.modbus.specs.Request.{requestOf}
 use Rattle.modbus.specs.Answer.{unitOf}
 use Rattle.modbus.specs.declared.replies.Answer.{Answer}
 use Rattle.modbus.proofs.Units as units
-use Rattle.ascii.specs.Ascii.{bytesIn, formed, asciiOf, addressIn, unitIn}
+use Rattle.ascii.specs.Ascii.{bytesIn, formed, asciiOf, addressAmong, unitAmong}
 use Rattle.ascii.proofs.RoundTrip as ascii
 use Rattle.master_request.specs.declared.Ask.{Ask}
 use Rattle.master_request.specs.Ask.{sayable, requestUnit}
@@ -37,10 +37,10 @@ module _ (a : ℕ) (ask : Ask) (s : List ℕ) (e : sayable a ask (length s) ≡ 
   pub asked-formed : formed (asciiOf a (requestUnit ask s)) ≡ true
   asked-formed = ascii.own-formed a (requestUnit ask s) below (said-some ask s) (omega (arith, said-most a ask s e))
 
-  pub asked-address : addressIn (asciiOf a (requestUnit ask s)) ≡ a
+  pub asked-address : addressAmong (bytesIn (asciiOf a (requestUnit ask s))) ≡ a
   asked-address = ascii.own-address a (requestUnit ask s) below
 
-  pub asked-request : requestOf (unitIn (asciiOf a (requestUnit ask s))) ≡ said.requestSaid ask s
+  pub asked-request : requestOf (unitAmong (bytesIn (asciiOf a (requestUnit ask s)))) ≡ said.requestSaid ask s
   asked-request = ap requestOf (ascii.own-unit a (requestUnit ask s) below) ∙ said-read a ask s e
 
 -- ---- the master reads what was answered
@@ -61,11 +61,11 @@ reply-back r ws h e w =
 abbrev MessageOr14 : List ℕ → Heard → Type 0
 MessageOr14 m h = replyNumber (h .reply) ≡ 0 → IsMessage asciiOf m h
 
-unit-below : (m : List ℕ) → Bytes (unitIn m)
-unfolding unitIn bytesIn
+unit-below : (m : List ℕ) → Bytes (unitAmong (bytesIn m))
+unfolding unitAmong bytesIn
 unit-below m = below-drop 256 1 (take (length (bytesIn m) - 1) (bytesIn m)) (below-take 256 (length (bytesIn m) - 1) (bytesIn m) (bytes-below (drop 1 m)))
 
 pub reply-only : (m : List ℕ) → replyNumber (asciiHeard m .reply) ≡ 0 → IsMessage asciiOf m (asciiHeard m)
 unfolding asciiHeard
 reply-only m =
-    pick-both (MessageOr14 m) (formed m) (λ e. heard-only asciiOf (addressIn m) (unitIn m) m (unit-below m) (ascii.formed-only m e)) (λ _ z. absurd (omega arith))
+    pick-both (MessageOr14 m) (formed m) (λ e. heard-only asciiOf (addressAmong (bytesIn m)) (unitAmong (bytesIn m)) m (unit-below m) (ascii.formed-only m e)) (λ _ z. absurd (omega arith))

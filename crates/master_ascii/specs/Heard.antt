@@ -6,14 +6,14 @@ use lib.Dec.{eqb}
 use lib.ListN.{length, getD}
 use Rattle.base.specs.Choice.{pick, both}
 use Rattle.modbus.specs.Request.{between}
-use Rattle.ascii.specs.Ascii.{formed, addressIn, unitIn}
+use Rattle.ascii.specs.Ascii.{bytesIn, formed, addressAmong, unitAmong}
 use Rattle.master_reply.specs.declared.Heard.{Heard}
 use Rattle.master_reply.specs.declared.Reply.the-variants.{NotAReply}
 use Rattle.master_reply.specs.Reply.{heard, heardOf}
 
 -- the text is one message of the line
 unfoldable pub asciiHeard : List ℕ → Heard
-asciiHeard text = pick (formed text) (heardOf (addressIn text) (unitIn text)) (heard NotAReply [])
+asciiHeard text = pick (formed text) (heardOf (addressAmong (bytesIn text)) (unitAmong (bytesIn text))) (heard NotAReply [])
 
 -- the first test of it: `:`, and CR LF behind k pairs, "k from 3 to 255"
 unfoldable pub framed : List ℕ → Bool

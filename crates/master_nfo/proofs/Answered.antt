@@ -22,7 +22,7 @@ use Rattle.nfo.proofs.Address.{adr-only}
 use Rattle.nfo_parts.proofs.Written.{reply-length}
 use Rattle.master_nfo.specs.declared.replies.Reply.{Reply}
 use Rattle.master_nfo.specs.declared.replies.Reply.the-variants.{Told, Acknowledged, Refused, NotAReply}
-use Rattle.master_nfo.specs.Replies.{ack, nak, replied, toldBy, addressIn, readOf}
+use Rattle.master_nfo.specs.Replies.{ack, nak, replied, toldBy, addressHeard, readOf}
 use Rattle.master_nfo.proofs.Words.{never, places, placed}
 use Rattle.master_nfo.proofs.Bytes.{reply-adr, reply-parameter, reply-value, reply-replied, replied-written}
 
@@ -33,16 +33,16 @@ told-cases P a (Number e) NotHex none told = none
 told-cases P a NoNumber v none told = none
 
 module _ (s : List ℕ) (P : Reply → Type 0) (none : P NotAReply) where
-  pub read-cases : (whole ack s ≡ true → P (Acknowledged (addressIn s))) → (whole nak s ≡ true → P (Refused (addressIn s)))
-      → ((e : ENumber) (w : ℕ) → replied s ≡ true → parameterAt 2 s ≡ Number e → valueAt 8 s ≡ Word w → P (Told (addressIn s) e w)) → P (readOf s)
+  pub read-cases : (whole ack s ≡ true → P (Acknowledged (addressHeard s))) → (whole nak s ≡ true → P (Refused (addressHeard s)))
+      → ((e : ENumber) (w : ℕ) → replied s ≡ true → parameterAt 2 s ≡ Number e → valueAt 8 s ≡ Word w → P (Told (addressHeard s) e w)) → P (readOf s)
   unfolding readOf
   read-cases acknowledged refused told = go (whole ack s) (whole nak s) (replied s) refl refl refl
     where
       go : (a n r : Bool) → whole ack s ≡ a → whole nak s ≡ n → replied s ≡ r
-          → P (pick a (Acknowledged (addressIn s)) (pick n (Refused (addressIn s)) (pick r (toldBy (addressIn s) (parameterAt 2 s) (valueAt 8 s)) NotAReply)))
+          → P (pick a (Acknowledged (addressHeard s)) (pick n (Refused (addressHeard s)) (pick r (toldBy (addressHeard s) (parameterAt 2 s) (valueAt 8 s)) NotAReply)))
       go true n r p q h = acknowledged p
       go false true r p q h = refused q
-      go false false true p q h = told-cases P (addressIn s) (parameterAt 2 s) (valueAt 8 s) none (λ e w f g. told e w h f g)
+      go false false true p q h = told-cases P (addressHeard s) (parameterAt 2 s) (valueAt 8 s) none (λ e w f g. told e w h f g)
       go false false false p q h = none
 
 -- ---- reading back what was written
@@ -67,11 +67,11 @@ module _ (adr : ℕ) (a : fits ADR adr ≡ true) where
 
 -- ---- and only then
 -- where an address is read, ADR is it + 32
-adr-read : (s : List ℕ) (a : ℕ) → fits ADR (getD s 0 0) ≡ true → addressIn s ≡ a → (a < 96) × (getD s 0 0 ≡ a + 32)
+adr-read : (s : List ℕ) (a : ℕ) → fits ADR (getD s 0 0) ≡ true → addressHeard s ≡ a → (a < 96) × (getD s 0 0 ≡ a + 32)
 adr-read s a h e = let r = adr-only (getD s 0 0) h in (omega (arith, r .1, r .2), omega (arith, r .2))
 
 -- two bytes of a shape
-two-placed : (s : List ℕ) (c a : ℕ) → whole (ADR ∷ byte c ∷ []) s ≡ true → addressIn s ≡ a → (a < 96) × (s ≡ (a + 32) ∷ c ∷ [])
+two-placed : (s : List ℕ) (c a : ℕ) → whole (ADR ∷ byte c ∷ []) s ≡ true → addressHeard s ≡ a → (a < 96) × (s ≡ (a + 32) ∷ c ∷ [])
 two-placed s c a h e =
     let r = adr-read s a (whole-at (ADR ∷ byte c ∷ []) s 0 h) e in
     let second : getD s 1 0 ≡ c = eqb-true (getD s 1 0) c (whole-at (ADR ∷ byte c ∷ []) s 1 h) in

@@ -51,13 +51,13 @@ toldBy address (Number e) NotHex = NotAReply
 toldBy address NoNumber value = NotAReply
 
 -- "ADR is address + 32"
-abbrev pub addressIn : List ℕ → ℕ
-addressIn s = getD s 0 0 - 32
+abbrev pub addressHeard : List ℕ → ℕ
+addressHeard s = getD s 0 0 - 32
 
 -- "a reply must fill its slice exactly, with the shape, check and hex above .. Else 14, and only then."
 unfoldable pub readOf : List ℕ → Reply
 readOf s =
-    firstOf (when (whole ack s) (Acknowledged (addressIn s))
-    ∷ when (whole nak s) (Refused (addressIn s))
-    ∷ when (replied s) (toldBy (addressIn s) (parameterAt 2 s) (valueAt 8 s))
+    firstOf (when (whole ack s) (Acknowledged (addressHeard s))
+    ∷ when (whole nak s) (Refused (addressHeard s))
+    ∷ when (replied s) (toldBy (addressHeard s) (parameterAt 2 s) (valueAt 8 s))
     ∷ []) NotAReply

@@ -14,7 +14,7 @@ use Rattle.modbus.specs.declared.replies.Answer.{Answer}
 use Rattle.modbus.specs.declared.replies.Answer.the-variants as answer
 use Rattle.master_reply.specs.declared.Reply.{Reply}
 use Rattle.master_reply.specs.declared.Reply.the-variants.{Data, One, Many, Exception, NotAReply}
-use Rattle.master_reply.specs.Reply.{readCount, tellsData, tellsOne, tellsMany, tellsException, told, replyOf, registersOf, wordsFrom, heard, heardOf}
+use Rattle.master_reply.specs.Reply.{readCount, tellsData, tellsOne, tellsMany, tellsException, unitTells, replyOf, registersOf, wordsFrom, heard, heardOf}
 use Rattle.master_reply.specs.Told.{wordsBytes, addressOf, replyUnit, Within, IsReply, replyTo, wordsTold, IsAnswer}
 use Rattle.master_reply.proofs.Units.{reply-read}
 use Rattle.modbus_words.proofs.Laws.{word-own}
@@ -22,23 +22,23 @@ use Rattle.master_reply.proofs.Words.{shift-words, bytes-length, words-
 
 -- ---- what each kind of unit tells
 module _ (a : ℕ) where
-  told-data : (f n r m : ℕ) → Within 3 4 f → Within 1 125 n → told a (2 * n + 2) f (2 * n) r m ≡ Data a f n
-  unfolding told tellsData readCount
+  told-data : (f n r m : ℕ) → Within 3 4 f → Within 1 125 n → unitTells a (2 * n + 2) f (2 * n) r m ≡ Data a f n
+  unfolding unitTells tellsData readCount
   told-data f n r m h k =
       let even : 2 * n % 2 ≡ 0 = omega arith in
       let half : 2 * n / 2 ≡ n = omega arith in
       simp (le-leb 3 f (h .0), le-leb f 4 (h .1), eq-eqb (2 * n % 2) 0 even, le-leb 2 (2 * n) (omega (arith, k .0)), le-leb (2 * n) 250 (omega (arith, k .1)), eq-eqb (2 * n + 2) (2 * n + 2) refl, half)
 
-  told-one : (b r m : ℕ) → told a 5 6 b r m ≡ One a (label r) m
-  unfolding told tellsData tellsOne
+  told-one : (b r m : ℕ) → unitTells a 5 6 b r m ≡ One a (label r) m
+  unfolding unitTells tellsData tellsOne
   told-one b r m = refl
 
-  told-many : (b r m : ℕ) → Within 1 123 m → told a 5 16 b r m ≡ Many a (label r) m
-  unfolding told tellsData tellsOne tellsMany
+  told-many : (b r m : ℕ) → Within 1 123 m → unitTells a 5 16 b r m ≡ Many a (label r) m
+  unfolding unitTells tellsData tellsOne tellsMany
   told-many b r m h = simp (le-leb 1 m (h .0), le-leb m 123 (h .1))
 
-  told-exception : (f c r m : ℕ) → 0x80 ≤ f → Within 1 4 c → told a 2 f c r m ≡ Exception a f c
-  unfolding told tellsData tellsOne tellsMany tellsException
+  told-exception : (f c r m : ℕ) → 0x80 ≤ f → Within 1 4 c → unitTells a 2 f c r m ≡ Exception a f c
+  unfolding unitTells tellsData tellsOne tellsMany tellsException
   told-exception f c r m h k =
       simp (le-leb 3 f (omega arith), lt-leb f 4 (omega arith), ne-eqb f 6 (λ e. omega arith), ne-eqb f 16 (λ e. omega arith), le-leb 0x80 f h, le-leb 1 c (k .0), le-leb c 4 (k .1))
 
@@ -51,14 +51,14 @@ heard-as : (a : ℕ) (u : List ℕ) (r : Reply) (ws : List ℕ) → r ≡ replyO
 unfolding heardOf
 heard-as a u r ws e h = rw (← e, h)
 
-as-told : (a : ℕ) (u : List ℕ) (x : Reply) → Within 1 247 a → told a (length u) (getD u 0 0) (getD u 1 0) (wordAt u 1) (wordAt u 3) ≡ x → x ≡ replyOf a u
+as-told : (a : ℕ) (u : List ℕ) (x : Reply) → Within 1 247 a → unitTells a (length u) (getD u 0 0) (getD u 1 0) (wordAt u 1) (wordAt u 3) ≡ x → x ≡ replyOf a u
 as-told a u x h e = reply-read a u (getD u 0 0) (getD u 1 0) (wordAt u 1) (wordAt u 3) x (h .0) (h .1) refl refl refl refl (sym e)
 
 -- 06 and 16
-echo-told : (a f : ℕ) (r w : ℕ) (x : Reply) → told a 5 f (r / 256) r w ≡ x
-    → told a 5 f (r / 256) (wordAt (f ∷ wordBytes r ++ wordBytes w) 1) (wordAt (f ∷ wordBytes r ++ wordBytes w) 3) ≡ x
+echo-told : (a f : ℕ) (r w : ℕ) (x : Reply) → unitTells a 5 f (r / 256) r w ≡ x
+    → unitTells a 5 f (r / 256) (wordAt (f ∷ wordBytes r ++ wordBytes w) 1) (wordAt (f ∷ wordBytes r ++ wordBytes w) 3) ≡ x
 unfolding wordBytes wordAt
-echo-told a f r w x e = ap₂ (λ (y z : ℕ). told a 5 f (r / 256) y z) (word-own r) (word-own w) ∙ e
+echo-told a f r w x e = ap₂ (λ (y z : ℕ). unitTells a 5 f (r / 256) y z) (word-own r) (word-own w) ∙ e
 
 pub reply-heard : (r : Reply) (ws : List ℕ) → IsReply r → length ws ≡ registersOf r → heardOf (addressOf r) (replyUnit r ws) ≡ heard r ws
 unfolding replyUnit wordsFrom wordBytes
@@ -66,7 +66,7 @@ reply-heard (Data a f n) ws h e =
     let u : List ℕ = f ∷ 2 * n ∷ wordsBytes ws in
     let size : length (f ∷ 2 * n ∷ wordsBytes ws) ≡ 2 * n + 2 = omega (arith, bytes-length ws) in
     heard-as a u (Data a f n) ws
-    (as-told a u (Data a f n) (h .0) (ap (λ (k : ℕ). told a k f (2 * n) (wordAt u 1) (wordAt u 3)) size ∙ told-data a f n (wordAt u 1) (wordAt u 3) (h .1) (h .2)))
+    (as-told a u (Data a f n) (h .0) (ap (λ (k : ℕ). unitTells a k f (2 * n) (wordAt u 1) (wordAt u 3)) size ∙ told-data a f n (wordAt u 1) (wordAt u 3) (h .1) (h .2)))
     (shift-words f (2 * n) (wordsBytes ws) 0 n ∙ ap (wordsFrom (wordsBytes ws) 0) (sym e) ∙ words-again ws)
 reply-heard (One a r w) ws h e =
     heard-as a (6 ∷ wordBytes (r .0) ++ wordBytes w) (One a r w) ws

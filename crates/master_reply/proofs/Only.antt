@@ -16,7 +16,7 @@ use Rattle.modbus_words.specs.Words.{wordBytes, wordAt}
 use Rattle.modbus.specs.Request.{label, between}
 use Rattle.master_reply.specs.declared.Reply.{Reply}
 use Rattle.master_reply.specs.declared.Reply.the-variants.{Data, One, Many, Exception}
-use Rattle.master_reply.specs.Reply.{replyNumber, readCount, tellsData, tellsOne, tellsMany, tellsException, told, replyOf, registersOf, wordsFrom, heardOf}
+use Rattle.master_reply.specs.Reply.{replyNumber, readCount, tellsData, tellsOne, tellsMany, tellsException, unitTells, replyOf, registersOf, wordsFrom, heardOf}
 use Rattle.master_reply.specs.Told.{wordsBytes, addressOf, replyUnit, wordsHeard, Within, IsReply, IsMessage}
 use Rattle.master_reply.proofs.Units.{count-out, words-length}
 use Rattle.master_reply.proofs.Words.{bytes-own, shift-words, bytes-again}
@@ -110,7 +110,7 @@ abbrev ToldOr14 : ℕ → List ℕ → Reply → Type 0
 ToldOr14 a u r = replyNumber r ≡ 0 → Told a u r
 
 reply-only : (a : ℕ) (u : List ℕ) → Bytes u → replyNumber (replyOf a u) ≡ 0 → Told a u (replyOf a u)
-unfolding replyOf told
+unfolding replyOf unitTells
 reply-only a u below =
     let n : ℕ = length u in
     let f : ℕ = getD u 0 0 in

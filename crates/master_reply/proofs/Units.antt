@@ -19,11 +19,11 @@ use Rattle.modbus.specs.Request.{between}
 use Rattle.master_reply.specs.declared.Heard.{Heard}
 use Rattle.master_reply.specs.declared.Reply.{Reply}
 use Rattle.master_reply.specs.declared.Reply.the-variants.{NotAReply}
-use Rattle.master_reply.specs.Reply.{readCount, tellsData, tellsOne, tellsMany, tellsException, told, replyOf, registersOf, wordsFrom, heardOf}
+use Rattle.master_reply.specs.Reply.{readCount, tellsData, tellsOne, tellsMany, tellsException, unitTells, replyOf, registersOf, wordsFrom, heardOf}
 
 -- ---- what was read of the unit is what the definition reads
 pub reply-read : (a : ℕ) (u : List ℕ) (f b r n : ℕ) (x : Reply) → 1 ≤ a → a ≤ 247 → f ≡ getD u 0 0 → b ≡ getD u 1 0 → r ≡ wordAt u 1 → n ≡ wordAt u 3
-    → x ≡ told a (length u) f b r n → x ≡ replyOf a u
+    → x ≡ unitTells a (length u) f b r n → x ≡ replyOf a u
 unfolding replyOf
 reply-read a u f b r n x l h p q s o e = simp (le-leb 1 a l, le-leb a 247 h) (rw (← p, ← q, ← s, ← o) e)
 
@@ -88,7 +88,7 @@ abbrev Few : Reply → Type 0
 Few r = registersOf r ≤ 125
 
 pub reply-few : (a : ℕ) (u : List ℕ) → registersOf (replyOf a u) ≤ 125
-unfolding replyOf told tellsData
+unfolding replyOf unitTells tellsData
 reply-few a u =
     let n : ℕ = length u in
     let f : ℕ = getD u 0 0 in

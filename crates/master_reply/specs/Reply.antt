@@ -50,12 +50,12 @@ kinds address size function second register number =
     ∷ when (tellsException size function second) (Exception address function second)
     ∷ []
 
-unfoldable pub told : (address size function second register number : ℕ) → Reply
-told address size function second register number = firstOf (kinds address size function second register number) NotAReply
+unfoldable pub unitTells : (address size function second register number : ℕ) → Reply
+unitTells address size function second register number = firstOf (kinds address size function second register number) NotAReply
 
 -- "for Modbus address 1 to 247 and a normal answer .. or exception .. Else 14, and only then"
 unfoldable pub replyOf : ℕ → List ℕ → Reply
-replyOf address unit = pick (between 1 247 address) (told address (length unit) (getD unit 0 0) (getD unit 1 0) (wordAt unit 1) (wordAt unit 3)) NotAReply
+replyOf address unit = pick (between 1 247 address) (unitTells address (length unit) (getD unit 0 0) (getD unit 1 0) (wordAt unit 1) (wordAt unit 3)) NotAReply
 
 -- so many words, one after the other from a place on
 unfoldable pub wordsFrom : List ℕ → ℕ → ℕ → List ℕ

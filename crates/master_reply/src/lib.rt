@@ -7,7 +7,7 @@ ghost use mathlib.Core.Path.{_≡_};
 ghost use Prim.Native.Nat.{_≤_};
 ghost use lib.ListN.{replicate};
 ghost use Rattle.base.specs.Buffers.{front};
-ghost use Rattle.master_reply.specs.Reply.{replyNumber, readCount, tellsData, tellsOne, tellsMany, tellsException, told, replyOf, registersOf, wordsFrom, heardOf};
+ghost use Rattle.master_reply.specs.Reply.{replyNumber, readCount, tellsData, tellsOne, tellsMany, tellsException, unitTells, replyOf, registersOf, wordsFrom, heardOf};
 
 // What a master hears.
 pub enum Reply {
@@ -116,8 +116,15 @@ fn tells_exception(size: usize, function: u8, code: u8) -> bool
 }
 
 // What a unit of `size` bytes tells, by its function, the byte and the word behind that, and the word behind this.
-fn told(address: u8, size: usize, function: u8, second: u8, register: u16, number: u16) -> Reply
-    ensures { λ r. ⌜ r ≡ told address size function second register number ⌝ }
+fn unit_tells(
+    address: u8,
+    size: usize,
+    function: u8,
+    second: u8,
+    register: u16,
+    number: u16,
+) -> Reply
+    ensures { λ r. ⌜ r ≡ unitTells address size function second register number ⌝ }
 {
     if tells_data(size, function, second) {
         return Reply::Data(address, function, (second / 2) as usize);
@@ -147,7 +154,7 @@ fn reply_of(address: u8, unit: &[u8]) -> Reply
     let function = byte_at(unit, 0);
     let second = byte_at(unit, 1);
     let register = word_at(unit, 1);
-    told(
+    unit_tells(
         address,
         unit.len(),
         function,

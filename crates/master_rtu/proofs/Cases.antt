@@ -11,7 +11,7 @@ use Rattle.master.specs.Sent.{bytesSent}
 use Rattle.master_request.specs.declared.Ask.{Ask}
 use Rattle.master_request.specs.Ask.{readSayable, manySayable, headOf, manyUnit, sayable, requestUnit}
 use Rattle.master_reply.specs.declared.Heard.{Heard}
-use Rattle.master_reply.specs.Reply.{readCount, tellsData, tellsOne, tellsMany, tellsException, told, replyOf, wordsFrom, heardOf}
+use Rattle.master_reply.specs.Reply.{readCount, tellsData, tellsOne, tellsMany, tellsException, unitTells, replyOf, wordsFrom, heardOf}
 use Rattle.master_rtu.specs.Heard.{rtuHeard}
 use Rattle.master_rtu.specs.Cases.{requests, replies}
 
@@ -23,5 +23,5 @@ unfolding bytesSent fitting sayable readSayable manySayable requestUnit headOf m
 requests-written = refl
 
 pub replies-read : map (λ (t : List ℕ × Heard). (t .0, rtuHeard (t .0))) replies ≡ replies
-unfolding rtuHeard frameHolds crcHolds crcTold bodyOf crcOf crcByte crcBit addressIn unitIn heardOf replyOf told tellsData readCount tellsOne tellsMany tellsException wordsFrom wordAt front
+unfolding rtuHeard frameHolds crcHolds crcTold bodyOf crcOf crcByte crcBit addressIn unitIn heardOf replyOf unitTells tellsData readCount tellsOne tellsMany tellsException wordsFrom wordAt front
 replies-read = refl

@@ -12,7 +12,7 @@ use Rattle.drive.specs.Faults.{flagStands, statusOf, flagRaised, acknowledged}
 use Rattle.drive.specs.Events.{isFault, raised, ended}
 use Rattle.answers.specs.Answer.{answerNumber}
 use Rattle.reading.specs.Read as Reading
-use Rattle.permit.specs.Refusals.{readOnly, boundsOf, allowed, held, permitted}
+use Rattle.permit.specs.Refusals.{readOnly, boundsOf, allowed, initRunning, permitted}
 use Rattle.permit.specs.Permit.{permitOf}
 use Rattle.service.specs.Write.{followed, applied, written}
 use Rattle.service.specs.Serving.{toldServed, wroteServed}
@@ -67,5 +67,5 @@ cases =
     ∷ []
 
 pub cases-hold : map (λ (c : (Plant × ℕ × List ℕ) × Result). result (exchanged (c .0 .0) (0 ∷ 0 ∷ 0 ∷ []) (c .0 .1) (c .0 .2))) cases ≡ map (λ (c : (Plant × ℕ × List ℕ) × Result). c .1) cases
-unfolding rows lineAt startWords address firstRegister firstRow rowOfSpan twos within allows allowedAt started flagged lowestFrom lowestOf flagStands statusOf flagRaised acknowledged isFault raised ended Reading.stored Reading.told readOnly boundsOf allowed held permitted permitOf followed applied written toldServed wroteServed wordAt longAt reads writes asked requestOf reachesUs taskOf done served registersTold repliedBy replied exchanged
+unfolding rows lineAt startWords address firstRegister firstRow rowOfSpan twos within allows allowedAt started flagged lowestFrom lowestOf flagStands statusOf flagRaised acknowledged isFault raised ended Reading.stored Reading.told readOnly boundsOf allowed initRunning permitted permitOf followed applied written toldServed wroteServed wordAt longAt reads writes asked requestOf reachesUs taskOf done served registersTold repliedBy replied exchanged
 cases-hold = refl

@@ -21,9 +21,9 @@ streams-fed = refl
 abbrev seen : List ℕ × Message → Bool × Message
 seen t = (formed (t .0), messageOf (t .0))
 
-abbrev told : List ℕ × Message → Bool × Message
-told t = (true, t .1)
+abbrev shown : List ℕ × Message → Bool × Message
+shown t = (true, t .1)
 
-pub messages-parted : map seen messages ≡ map told messages
+pub messages-parted : map seen messages ≡ map shown messages
 unfolding formed bccIn bccOf enquiry select whole messageOf parameterAt valueAt pairValue digitValue
 messages-parted = refl

@@ -15,9 +15,9 @@ use Rattle.stream.specs.Automaton.{turn, feed}
 use Rattle.stream.specs.Scanned.{scanned}
 use Rattle.stream.proofs.Scanned.{further-none}
 use Rattle.pending.specs.declared.Pending.{Pending}
-use Rattle.pending.specs.Held.{held, Sized, emptied, restarted}
+use Rattle.pending.specs.Held.{held, Sized, emptied, beganWith}
 use Rattle.pending.specs.Scanning.{scanFrom, seenIn, Follows}
-use Rattle.pending.proofs.Laws.{sized-emptied, sized-pushed, sized-restarted, held-emptied, held-pushed, held-restarted, held-length, held-at}
+use Rattle.pending.proofs.Laws.{sized-emptied, sized-pushed, sized-began-with, held-emptied, held-pushed, held-began-with, held-length, held-at}
 use Rattle.pending.proofs.Scans.{scan-follows}
 use Rattle.nfo.specs.Shape.{part}
 use Rattle.nfo.specs.Message.{enquiry, select, bccIn, formed, viable, nfo}
@@ -70,8 +70,8 @@ held-again : (p : Pending) (s : List ℕ) (b : ℕ) → Sized p → held (again 
 unfolding again
 held-again p s b size = rw (viable-start b) (go (eqb b 0x04))
   where
-    go : (t : Bool) → held (pick t (restarted p b) (emptied p)) ≡ turn false false t 0 s b .pending
-    go true = held-restarted p b size
+    go : (t : Bool) → held (pick t (beganWith p b) (emptied p)) ≡ turn false false t 0 s b .pending
+    go true = held-began-with p b size
     go false = held-emptied p
 
 module _ (p : Pending) (b : ℕ) (size : Sized p) (room : p .len < 512) (right : Bool) where
@@ -97,7 +97,7 @@ module _ (p : Pending) (b : ℕ) (size : Sized p) (room : p .len < 512) (right :
 -- ---- the feeding follows the format
 again-sized : (p : Pending) (b : ℕ) → Sized p → Sized (again p b)
 unfolding again
-again-sized p b h = pick-both Sized (eqb b 0x04) (λ e. sized-restarted p b h) (λ e. sized-emptied p h)
+again-sized p b h = pick-both Sized (eqb b 0x04) (λ e. sized-began-with p b h) (λ e. sized-emptied p h)
 
 next-sized : (p : Pending) (b : ℕ) (right : Bool) → Sized p → (t : Step) → Sized (nextBy t right p b)
 next-sized p b right h Keeps = sized-pushed p b h

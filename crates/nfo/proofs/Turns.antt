@@ -12,7 +12,7 @@ use Rattle.base.specs.Choice.{pick, both, either}
 use Rattle.base.proofs.Arms.{NoneOf, upFrom, past}
 use Rattle.base.proofs.Tests.{pick-both, both-out}
 use Rattle.pending.specs.declared.Pending.{Pending}
-use Rattle.pending.specs.Held.{emptied, pushed, restarted}
+use Rattle.pending.specs.Held.{emptied, pushed, beganWith}
 use Rattle.pending.specs.Scanning.{Scan, scanFrom}
 use Rattle.pending.proofs.Scans.{Scanning, scan-turn}
 use Rattle.nfo.specs.Shape.{Kind, byte, text, any, fits}
@@ -209,7 +209,7 @@ unfolding spoils ends fed
 spoilt p b h = spoilt-by p b (p .len) (stepAfter p b) (eqb b (bccIn (p .bytes))) h
 
 fresh : (p : Pending) (b : ℕ) → (ends (emptied p) b ≡ false) × (fed (emptied p) b ≡ again p b)
-unfolding ends fed again emptied restarted pushed
+unfolding ends fed again emptied beganWith pushed
 fresh p b = rw (first-step (getD (p .bytes) 2 0) b) (go (eqb b 0x04) refl)
   where
     go : (t : Bool) → eqb b 0x04 ≡ t

@@ -8,7 +8,7 @@ use lib.Dec.{eqb, ltb}
 use lib.ListN.{length, getD}
 use Rattle.base.specs.Choice.{pick, both}
 use Rattle.pending.specs.declared.Pending.{Pending}
-use Rattle.pending.specs.Held.{held, emptied, pushed, restarted}
+use Rattle.pending.specs.Held.{held, emptied, pushed, beganWith}
 use Rattle.pending.specs.Scanning.{Feeding, Scan}
 use Rattle.nfo.specs.Shape.{Kind, any, fits}
 use Rattle.nfo.specs.Message.{enquiry, select, bccIn}
@@ -30,7 +30,7 @@ stepOf n third b = pick (eqb (pick (ltb 2 n) third b) 0x02) (stepIn select Check
 
 -- a byte that spoils what is pending is looked at again, as a beginning of its own
 unfoldable pub again : Pending → ℕ → Pending
-again p b = pick (eqb b 0x04) (restarted p b) (emptied p)
+again p b = pick (eqb b 0x04) (beganWith p b) (emptied p)
 
 -- whether b ends a message, by what it does and by whether it is the right BCC
 abbrev pub endsBy : Step → Bool → Bool

@@ -16,7 +16,7 @@ use Rattle.port.specs.Port.{Numbers}
 use Rattle.drive.specs.Plant.{Plant}
 use Rattle.service.specs.Serving.{Served}
 use Rattle.nfo_service.specs.Serve as Serve
-use Rattle.nfo_service.specs.Reply.{adrIn, parameterIn, numberOf, repliedBy, replied}
+use Rattle.nfo_service.specs.Reply.{adrIn, parameterIn, eNumberIn, repliedBy, replied}
 use Rattle.answers.specs.declared.Answer.{Answer}
 use Rattle.answers.specs.declared.Answer.the-variants.{Told, Written, NotOurs, Refused}
 use Rattle.card.specs.State.{cardOf}
@@ -40,7 +40,7 @@ by-short adr e (Refused refusal) = omega arith
 
 pub reply-short : (m : Message) (a : Answer) → length (replied m a) ≤ 14
 unfolding replied
-reply-short m a = pick-both (λ (b : List ℕ). length b ≤ 14) (eqb (adrIn m) 0x7F) (λ _. omega arith) (λ _. by-short (adrIn m) (numberOf (parameterIn m)) a)
+reply-short m a = pick-both (λ (b : List ℕ). length b ≤ 14) (eqb (adrIn m) 0x7F) (λ _. omega arith) (λ _. by-short (adrIn m) (eNumberIn (parameterIn m)) a)
 
 -- ---- a message is taken: it is in `held`. The port and the plant are q and p; once it was served y and x; and z is the port with the time sum that the answer leaves
 module _ (held : List ℕ) (q y z : Numbers) (p x : Plant) (scan : Scanned) (m : Message) (a : Answer) (n : ℕ) (out before : List ℕ) (room : 19 ≤ length before)

@@ -25,7 +25,7 @@ use Rattle.service.specs.Write.{written}
 use Rattle.service.specs.Serving.{Served, keeping, toldServed, permitted}
 use Rattle.service.proofs.Laws.{wrote-is}
 use Rattle.nfo_service.specs.Serve.{toUs, reachesUs, rowNamed, stops, rowSelected, selectServed, enquiryServed, served}
-use Rattle.nfo_service.specs.Reply.{adrIn, parameterIn, numberOf, repliedBy, replied}
+use Rattle.nfo_service.specs.Reply.{adrIn, parameterIn, eNumberIn, repliedBy, replied}
 use Rattle.answers.specs.declared.Answer.{Answer}
 
 -- ---- an ENQUIRY
@@ -106,6 +106,6 @@ pub replied-none : (m : Message) (a : Answer) (adr : ℕ) → adr ≡ adrIn m �
 unfolding replied
 replied-none m a adr d h = simp (eq-eqb (adrIn m) 0x7F (sym d ∙ h))
 
-pub replied-some : (m : Message) (a : Answer) (adr e : ℕ) → adr ≡ adrIn m → (adr ≡ 0x7F → ⊥) → e ≡ numberOf (parameterIn m) → replied m a ≡ repliedBy adr e a
+pub replied-some : (m : Message) (a : Answer) (adr e : ℕ) → adr ≡ adrIn m → (adr ≡ 0x7F → ⊥) → e ≡ eNumberIn (parameterIn m) → replied m a ≡ repliedBy adr e a
 unfolding replied
 replied-some m a adr e d h f = simp (ne-eqb (adrIn m) 0x7F (λ z. h (d ∙ z)), d, f)

@@ -22,9 +22,9 @@ parameterIn (Enquiry adr parameter) = parameter
 parameterIn (Select adr parameter value) = parameter
 
 -- only a row that was named is told
-abbrev pub numberOf : Parameter → ℕ
-numberOf (Number e) = e .0
-numberOf NoNumber = 0
+abbrev pub eNumberIn : Parameter → ℕ
+eNumberIn (Number e) = e .0
+eNumberIn NoNumber = 0
 
 -- the column NFO. "The reply repeats the request's ADR"
 unfoldable pub repliedBy : ℕ → ℕ → Answer → List ℕ
@@ -35,4 +35,4 @@ repliedBy adr e (Refused refusal) = nakOf adr
 
 -- "95 is broadcast: SELECT acts without reply"; "A refused broadcast gets no reply"
 unfoldable pub replied : Message → Answer → List ℕ
-replied message answer = pick (eqb (adrIn message) (adrOf 95)) [] (repliedBy (adrIn message) (numberOf (parameterIn message)) answer)
+replied message answer = pick (eqb (adrIn message) (adrOf 95)) [] (repliedBy (adrIn message) (eNumberIn (parameterIn message)) answer)

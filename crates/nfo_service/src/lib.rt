@@ -20,7 +20,7 @@ ghost use lib.Dec.{eqb};
 ghost use lib.ListN.{length};
 ghost use Rattle.base.specs.Buffers.{front, fitting};
 ghost use Rattle.nfo_service.specs.Serve.{adrOf, toUs, reachesUs, rowNamed, stops, rowSelected, selectServed, enquiryServed, served};
-ghost use Rattle.nfo_service.specs.Reply.{adrIn, parameterIn, numberOf, repliedBy, replied};
+ghost use Rattle.nfo_service.specs.Reply.{adrIn, parameterIn, eNumberIn, repliedBy, replied};
 
 // Serves a message: an ENQUIRY tells a row, a SELECT writes one. A refusal changes nothing.
 pub fn serve(plant: &mut Plant, port: &mut Numbers, message: Message) -> Answer
@@ -181,7 +181,7 @@ fn parameter_in(message: Message) -> Parameter
 
 // The E number that a message names, or 0.
 fn number_in(message: Message) -> ENumber
-    ensures { λ r. ⌜ r .0 ≡ numberOf (parameterIn message) ⌝ }
+    ensures { λ r. ⌜ r .0 ≡ eNumberIn (parameterIn message) ⌝ }
 {
     let Parameter::Number(e) = parameter_in(message) else {
         return ENumber(0);

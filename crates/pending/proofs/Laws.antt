@@ -10,7 +10,7 @@ use lib.ListN.{length, getD, length-set, length-take}
 use lib.Seq.{take-suc-set, getD-take}
 use Rattle.base.proofs.Tests.{pick-both}
 use Rattle.pending.specs.declared.Pending.{Pending}
-use Rattle.pending.specs.Held.{held, Sized, empty, emptied, pushed, restarted}
+use Rattle.pending.specs.Held.{held, Sized, empty, emptied, pushed, beganWith}
 
 -- ---- the array keeps its length
 pub sized-empty : Sized empty
@@ -25,9 +25,9 @@ pub sized-pushed : (p : Pending) (b : ℕ) → Sized p → Sized (pushed p b)
 unfolding pushed
 sized-pushed p b h = pick-both Sized (ltb (p .len) 512) (λ e. length-set (p .bytes) (p .len) b ∙ h) (λ e. h)
 
-pub sized-restarted : (p : Pending) (b : ℕ) → Sized p → Sized (restarted p b)
-unfolding restarted
-sized-restarted p b h = length-set (p .bytes) 0 b ∙ h
+pub sized-began-with : (p : Pending) (b : ℕ) → Sized p → Sized (beganWith p b)
+unfolding beganWith
+sized-began-with p b h = length-set (p .bytes) 0 b ∙ h
 
 -- ---- the bytes pending
 pub held-empty : held empty ≡ []
@@ -43,9 +43,9 @@ pub held-pushed : (p : Pending) (b : ℕ) → Sized p → p .len < 512 → held 
 unfolding held pushed
 held-pushed p b h l = simp (lt-ltb (p .len) 512 l, add-one) (take-suc-set (p .bytes) (p .len) b (omega arith))
 
-pub held-restarted : (p : Pending) (b : ℕ) → Sized p → held (restarted p b) ≡ b ∷ []
-unfolding held restarted
-held-restarted p b h = take-suc-set (p .bytes) 0 b (omega arith)
+pub held-began-with : (p : Pending) (b : ℕ) → Sized p → held (beganWith p b) ≡ b ∷ []
+unfolding held beganWith
+held-began-with p b h = take-suc-set (p .bytes) 0 b (omega arith)
 
 -- fewer bytes than the array has room for: `len` tells how many
 pub held-length : (p : Pending) → Sized p → length (held p) < 512 → length (held p) ≡ p .len

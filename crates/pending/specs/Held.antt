@@ -29,5 +29,5 @@ unfoldable pub pushed : Pending → ℕ → Pending
 pushed p b = pick (ltb (p .len) 512) (record { bytes = set (p .bytes) (p .len) b; len = p .len + 1 }) p
 
 -- b alone is pending
-unfoldable pub restarted : Pending → ℕ → Pending
-restarted p b = record { bytes = set (p .bytes) 0 b; len = 1 }
+unfoldable pub beganWith : Pending → ℕ → Pending
+beganWith p b = record { bytes = set (p .bytes) 0 b; len = 1 }

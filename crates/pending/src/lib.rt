@@ -1,7 +1,7 @@
 // The bytes pending on a line, and what a scan of more bytes hands back: shared by the protocols that come as streams.
-// `Pending::empty` and `emptied` hold nothing; `push` and `restart` take one byte into the lent array, so that a scan copies no array.
+// `Pending::empty` and `emptied` hold nothing; `push` and `begin_with` take one byte into the lent array, so that a scan copies no array.
 ghost use mathlib.Core.Path.{_≡_};
-ghost use Rattle.pending.specs.Held.{empty, pushed, emptied, restarted};
+ghost use Rattle.pending.specs.Held.{empty, pushed, emptied, beganWith};
 
 // The raw bytes left, in order: the first `len` of the array. A `len` above 512 reads as 512, so any bits are bytes pending.
 #[repr(C)]
@@ -50,8 +50,8 @@ pub fn push(bytes: &mut [u8; 512], len: usize, b: u8) -> usize
 }
 
 // Puts `b` first, alone: there is one byte then.
-pub fn restart(bytes: &mut [u8; 512], b: u8) -> usize
-    ensures { λ r. ⌜ record { bytes = now (bytes .exit); len = r } ≡ restarted (record { bytes = now (bytes .entry); len = 0 }) b ⌝ }
+pub fn begin_with(bytes: &mut [u8; 512], b: u8) -> usize
+    ensures { λ r. ⌜ record { bytes = now (bytes .exit); len = r } ≡ beganWith (record { bytes = now (bytes .entry); len = 0 }) b ⌝ }
 {
     bytes[0] = b;
     1

@@ -9,7 +9,7 @@ use Rattle.answers.specs.declared.Refusal.the-variants.{NotPermitted}
 use Rattle.drive.specs.Plant.{Plant}
 use Rattle.drive.specs.Faults.{flagStands, runs}
 use Rattle.permit.specs.declared.Permit.the-variants.{Write, Refused}
-use Rattle.permit.specs.Refusals.{readOnly, allowed, isInit, held, permitted, writeLines}
+use Rattle.permit.specs.Refusals.{readOnly, allowed, isInit, initRunning, permitted, writeLines}
 use Rattle.permit.specs.Permit.{permitBy, permitOf}
 
 -- an arm of a `match` on the row's class
@@ -17,13 +17,13 @@ pub at-class : (test : Class → Bool) (row : ℕ) (class k : Class) (r : Bool) 
 at-class test row class k r d e q = q ∙ ap test (sym e ∙ d)
 
 -- an arm of a `match` on the row's class
-pub held-at : (p : Plant) (row : ℕ) (class k : Class) (r : Bool) → class ≡ lineAt row .class → class ≡ k → r ≡ both (isInit k) (runs p) → r ≡ held p row
-unfolding held
-held-at p row class k r d e q = q ∙ ap (λ (x : Class). both (isInit x) (runs p)) (sym e ∙ d)
+pub init-running-at : (p : Plant) (row : ℕ) (class k : Class) (r : Bool) → class ≡ lineAt row .class → class ≡ k → r ≡ both (isInit k) (runs p) → r ≡ initRunning p row
+unfolding initRunning
+init-running-at p row class k r d e q = q ∙ ap (λ (x : Class). both (isInit x) (runs p)) (sym e ∙ d)
 
 -- the order past its fourth test
 module _ (p : Plant) (row w : ℕ) (o a f h t : Bool) (reads : o ≡ readOnly row) (writable : o ≡ false) (allows : a ≡ allowed p row w) (fine : not a ≡ false) (flags : f ≡ flagStands p) (unflagged : f ≡ false)
-    (holds : h ≡ held p row) (free : h ≡ false) (permits : t ≡ permitted p row w) where
+    (holds : h ≡ initRunning p row) (free : h ≡ false) (permits : t ≡ permitted p row w) where
   pub permit-no : not t ≡ true → Refused NotPermitted ≡ permitOf p row w
   unfolding permitOf
   permit-no e = simp (← reads, writable, ← allows, fine, ← flags, unflagged, ← holds, free, ← permits, e)

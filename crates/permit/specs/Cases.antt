@@ -5,7 +5,7 @@ use mathlib.Core.List.{List, [], _∷_, map}
 use Prim.Native.Nat.{ℕ}
 use Rattle.table.specs.Names.{P-Nom, I-magn, R-fix1, SpdScl-num, MODE, SCMD, Inv-St}
 use Rattle.table.specs.Table.{rows, lineAt, startWords}
-use Rattle.allowed.specs.Allowed.{twos, numberOf, within, member, belowLimt, aboveMagn, atMode, setpointAllows, allows, allowedAt}
+use Rattle.allowed.specs.Allowed.{twos, integerOf, within, member, belowLimt, aboveMagn, atMode, setpointAllows, allows, allowedAt}
 use Rattle.answers.specs.Answer.{refusalNumber}
 use Rattle.drive.specs.Plant.{Plant, started}
 use Rattle.drive.specs.Faults.{active, flagStands, runs, flagRaised}
@@ -13,7 +13,7 @@ use Rattle.drive.specs.Events.{portFault, withActive}
 use Rattle.drive.specs.Cases.{bus, bus-runs, silent}
 use Rattle.permit.specs.declared.Permit.{Permit}
 use Rattle.permit.specs.declared.Permit.the-variants.{Write, Refused}
-use Rattle.permit.specs.Refusals.{readOnly, boundsOf, allowed, held, permitted}
+use Rattle.permit.specs.Refusals.{readOnly, boundsOf, allowed, initRunning, permitted}
 use Rattle.permit.specs.Permit.{permitOf}
 
 -- the outcome's number: 0 is done
@@ -47,5 +47,5 @@ cases =
     ∷ []
 
 pub cases-hold : map (λ (c : ℕ × ℕ). c .0) cases ≡ map (λ (c : ℕ × ℕ). c .1) cases
-unfolding rows lineAt startWords twos numberOf within member belowLimt aboveMagn atMode setpointAllows allows allowedAt started active flagStands runs flagRaised portFault withActive readOnly boundsOf allowed held permitted permitOf
+unfolding rows lineAt startWords twos integerOf within member belowLimt aboveMagn atMode setpointAllows allows allowedAt started active flagStands runs flagRaised portFault withActive readOnly boundsOf allowed initRunning permitted permitOf
 cases-hold = refl

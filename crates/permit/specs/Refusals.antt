@@ -10,7 +10,7 @@ use Rattle.base.specs.Order.{Line, when, numbers}
 use Rattle.table.specs.Names.{I-magn, I-limt, Mode, SCMD}
 use Rattle.table.specs.Table.{lineAt}
 use Rattle.table.specs.declared.lines.Class.{Class}
-use Rattle.table.specs.declared.lines.Class.the-variants.{Init, Run, Read}
+use Rattle.table.specs.declared.lines.Class.the-variants.{Init, Run, OnlyRead}
 use Rattle.allowed.specs.Allowed.{allowedAt}
 use Rattle.allowed.specs.declared.Bounds.{Bounds}
 use Rattle.answers.specs.Answer.{refusalNumber}
@@ -24,7 +24,7 @@ use Rattle.drive.specs.Faults.{active, flagStands, runs}
 abbrev pub isRead : Class → Bool
 isRead Init = false
 isRead Run = false
-isRead Read = true
+isRead OnlyRead = true
 
 unfoldable pub readOnly : ℕ → Bool
 readOnly row = isRead (lineAt row .class)
@@ -40,10 +40,10 @@ allowed p row w = allowedAt row (boundsOf p) w
 abbrev pub isInit : Class → Bool
 isInit Init = true
 isInit Run = false
-isInit Read = false
+isInit OnlyRead = false
 
-unfoldable pub held : Plant → ℕ → Bool
-held p row = both (isInit (lineAt row .class)) (runs p)
+unfoldable pub initRunning : Plant → ℕ → Bool
+initRunning p row = both (isInit (lineAt row .class)) (runs p)
 
 -- 7: "SCMD is written only at MODE 3; run values need DIN1 active"
 unfoldable pub permitted : Plant → ℕ → ℕ → Bool
@@ -57,7 +57,7 @@ abbrev pub writeLines : Plant → ℕ → ℕ → List (Line Refusal)
 writeLines p row w =
     when (not (allowed p row w)) NotAllowed
     ∷ when (flagStands p) FlagStands
-    ∷ when (held p row) Running
+    ∷ when (initRunning p row) Running
     ∷ when (not (permitted p row w)) NotPermitted
     ∷ []
 

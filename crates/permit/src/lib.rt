@@ -9,7 +9,7 @@ use table::Class;
 use table::Row;
 use table::names::*;
 ghost use mathlib.Core.Path.{_≡_};
-ghost use Rattle.permit.specs.Refusals.{readOnly, allowed, held, permitted};
+ghost use Rattle.permit.specs.Refusals.{readOnly, allowed, initRunning, permitted};
 ghost use Rattle.permit.specs.Permit.{permitOf};
 
 // The permitted write, or the refusal.
@@ -31,7 +31,7 @@ pub fn permit_of(plant: &Plant, row: Row, word: u32) -> Permit
     if drive::flag_stands(plant) {
         return Permit::Refused(Refusal::FlagStands);
     }
-    if is_held(plant, row) {
+    if is_init_running(plant, row) {
         return Permit::Refused(Refusal::Running);
     }
     if !is_permitted(plant, row, word) {
@@ -48,7 +48,7 @@ pub fn read_only(row: Row) -> bool
     match class {
         Class::Init => false,
         Class::Run => false,
-        Class::Read => true,
+        Class::OnlyRead => true,
     }
 }
 
@@ -64,15 +64,15 @@ fn is_allowed(plant: &Plant, row: Row, word: u32) -> bool
     allows(row, word, bounds)
 }
 
-// An Init row is held while the drive runs.
-fn is_held(plant: &Plant, row: Row) -> bool
-    ensures { λ r. ⌜ r ≡ held (now (plant .entry)) (row .0) ⌝ }
+// An Init row is not written while the drive runs.
+fn is_init_running(plant: &Plant, row: Row) -> bool
+    ensures { λ r. ⌜ r ≡ initRunning (now (plant .entry)) (row .0) ⌝ }
 {
     let class = row.class();
     match class {
         Class::Init => drive::running(plant),
         Class::Run => false,
-        Class::Read => false,
+        Class::OnlyRead => false,
     }
 }
 

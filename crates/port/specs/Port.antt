@@ -7,8 +7,8 @@ abbrev pub Numbers : Type 0
 Numbers = List ℕ
 
 -- ---- the names
-abbrev pub Protocol : ℕ
-Protocol = 0
+abbrev pub ProtocolAt : ℕ
+ProtocolAt = 0
 
 abbrev pub Sum : ℕ
 Sum = 1
@@ -18,7 +18,7 @@ Sioerr = 2
 
 -- ---- a number of the port
 abbrev pub protocol : Numbers → ℕ
-protocol q = getD q Protocol 0
+protocol q = getD q ProtocolAt 0
 
 abbrev pub sum : Numbers → ℕ
 sum q = getD q Sum 0

@@ -11,7 +11,7 @@ use Rattle.base.specs.Buffers.{front}
 use Rattle.base.proofs.Sets.{sets-part, sets-append, sets-front, take-front, length-front, front-none}
 use Rattle.hex.specs.Hex.{hexOf}
 use Rattle.hex.proofs.RoundTrip.{length-hex}
-use Rattle.card.specs.Outcome.{numberOf}
+use Rattle.card.specs.Outcome.{outcomeNumber}
 use Rattle.port.specs.Port.{Numbers}
 use Rattle.drive.specs.Plant.{Plant}
 use Rattle.card.specs.declared.state.Card.{Card}
@@ -78,8 +78,8 @@ module _ (number : ℕ) (reply text : List ℕ) (room : 2 * length reply + 4 ≤
 
 -- ---- a call, by what the card promises of it
 -- what is reported of a turn, with a line of so many characters
-abbrev pub told : Turn → ℕ → Report
-told x n = record { card = x .card; used = x .used; reply = x .len; line = n }
+abbrev pub reportOf : Turn → ℕ → Report
+reportOf x n = record { card = x .card; used = x .used; reply = x .len; line = n }
 
 -- the buffer for the reply has 64 bytes; `held`, `q` and `p` are the parts of the card after the call
 module _ (c : Card) (bytes before after held : List ℕ) (q : Numbers) (p : Plant) (t : Turned) (room : length before ≡ 64)
@@ -104,25 +104,25 @@ module _ (c : Card) (bytes before after held : List ℕ) (q : Numbers) (p : Plan
   reply-read = let same : t .len - 0 ≡ length (r .reply) = omega (arith, same-len) in rw (same, turns .1) (take-front (r .reply) before)
 
   -- by the number of its outcome
-  module _ (number : ℕ) (numbered : number ≡ numberOf (t .outcome)) where
-    said : number ≡ numberOf (r .outcome)
-    said = numbered ∙ ap (λ (x : Turn). numberOf (x .outcome)) (turns .0)
+  module _ (number : ℕ) (numbered : number ≡ outcomeNumber (t .outcome)) where
+    said : number ≡ outcomeNumber (r .outcome)
+    said = numbered ∙ ap (λ (x : Turn). outcomeNumber (x .outcome)) (turns .0)
 
     no-line : 9 < number → lineOf r ≡ []
     unfolding lineOf
-    no-line h = let l : 9 < numberOf (r .outcome) = omega (arith, said) in simp (lt-ltb 9 (numberOf (r .outcome)) l)
+    no-line h = let l : 9 < outcomeNumber (r .outcome) = omega (arith, said) in simp (lt-ltb 9 (outcomeNumber (r .outcome)) l)
 
     a-line : number ≤ 9 → lineText number (take (t .len - 0) after) ≡ lineOf r
     unfolding lineOf
-    a-line h = let l : numberOf (r .outcome) ≤ 9 = omega (arith, said) in rw (reply-read, said) (simp (le-ltb 9 (numberOf (r .outcome)) l))
+    a-line h = let l : outcomeNumber (r .outcome) ≤ 9 = omega (arith, said) in rw (reply-read, said) (simp (le-ltb 9 (outcomeNumber (r .outcome)) l))
 
-    pub serve-none : (text : List ℕ) → 9 < number → (told (turnIn held q p t) 0 ≡ reported r) × ((after ≡ front (r .reply) before) × (text ≡ front (lineOf r) text))
-    serve-none text h = let none : lineOf r ≡ [] = no-line h in rw none (ap (λ (x : Turn). told x 0) (turns .0), (turns .1, sym (front-none text)))
+    pub serve-none : (text : List ℕ) → 9 < number → (reportOf (turnIn held q p t) 0 ≡ reported r) × ((after ≡ front (r .reply) before) × (text ≡ front (lineOf r) text))
+    serve-none text h = let none : lineOf r ≡ [] = no-line h in rw none (ap (λ (x : Turn). reportOf x 0) (turns .0), (turns .1, sym (front-none text)))
 
     pub serve-line : (text out : List ℕ) (n : ℕ) → number ≤ 9
         → (n ≡ length (lineText number (take (t .len - 0) after))) × (out ≡ front (lineText number (take (t .len - 0) after)) text)
-        → (told (turnIn held q p t) n ≡ reported r) × ((after ≡ front (r .reply) before) × (out ≡ front (lineOf r) text))
+        → (reportOf (turnIn held q p t) n ≡ reported r) × ((after ≡ front (r .reply) before) × (out ≡ front (lineOf r) text))
     serve-line text out n h e =
         let count : n ≡ length (lineOf r) = e .0 ∙ ap length (a-line h) in
         let lent : out ≡ front (lineOf r) text = e .1 ∙ ap (λ (l : List ℕ). front l text) (a-line h) in
-        rw count (ap (λ (x : Turn). told x (length (lineOf r))) (turns .0), (turns .1, lent))
+        rw count (ap (λ (x : Turn). reportOf x (length (lineOf r))) (turns .0), (turns .1, lent))

@@ -8,7 +8,7 @@ use Rattle.hex.specs.Hex.{hexOf}
 use Rattle.port.specs.Port.{Numbers}
 use Rattle.drive.specs.Plant.{Plant}
 use Rattle.card.specs.State.{cardOf}
-use Rattle.card.specs.Outcome.{numberOf}
+use Rattle.card.specs.Outcome.{outcomeNumber}
 use Rattle.card.specs.declared.state.Card.{Card}
 use Rattle.turn.specs.Turn.{Received}
 use Rattle.session_loop.specs.declared.call.Reported.{Reported}
@@ -24,7 +24,7 @@ lineText number reply = (0x30 + number % 10) ∷ 0x20 ∷ (shown reply ++ 0x0A �
 
 -- a taken message has an outcome from 0 to 9. "10: buffer too short", "11: RTU length or CRC wrong" and "15: nothing taken" have no line
 unfoldable pub lineOf : Received → List ℕ
-lineOf r = pick (ltb 9 (numberOf (r .outcome))) [] (lineText (numberOf (r .outcome)) (r .reply))
+lineOf r = pick (ltb 9 (outcomeNumber (r .outcome))) [] (lineText (outcomeNumber (r .outcome)) (r .reply))
 
 -- what is reported of a call: the card then, the bytes used, the lengths of the reply and of the line
 pub record Report : Type 0 where

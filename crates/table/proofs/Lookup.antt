@@ -205,11 +205,11 @@ no-span r n x (y ∷ ys) b e =
     simp (not-there r x y b (h .0)) (no-span r n x ys b (h .1))
 
 -- the row that begins there, where its width is the count
-abbrev fitting : ℕ → Found → Found
-fitting n (At row) = pick (eqb (lineAt (row .0) .registers) n) (At row) NoRow
-fitting n NoRow = NoRow
+abbrev of-width : ℕ → Found → Found
+of-width n (At row) = pick (eqb (lineAt (row .0) .registers) n) (At row) NoRow
+of-width n NoRow = NoRow
 
-span-found : (r n : ℕ) (xs : List Entry) → every listed xs ≡ true → pairwise apart xs ≡ true → firstRow (spans r n) xs ≡ fitting n (firstRow (begins r) xs)
+span-found : (r n : ℕ) (xs : List Entry) → every listed xs ≡ true → pairwise apart xs ≡ true → firstRow (spans r n) xs ≡ of-width n (firstRow (begins r) xs)
 unfolding firstRow
 span-found r n [] l a = refl
 span-found r n (x ∷ xs) l a = go (begins r x) (eqb (x .line .registers) n) refl refl (span-found r n xs (ls .1) (gap .1))
@@ -223,21 +223,21 @@ span-found r n (x ∷ xs) l a = go (begins r x) (eqb (x .line .registers) n) ref
     width : lineAt (x .name) .registers ≡ x .line .registers
     width = eqb-true (lineAt (x .name) .registers) (x .line .registers) (ls .0)
 
-    go : (s t : Bool) → begins r x ≡ s → eqb (x .line .registers) n ≡ t → firstRow (spans r n) xs ≡ fitting n (firstRow (begins r) xs)
-        → firstRow (spans r n) (x ∷ xs) ≡ fitting n (firstRow (begins r) (x ∷ xs))
+    go : (s t : Bool) → begins r x ≡ s → eqb (x .line .registers) n ≡ t → firstRow (spans r n) xs ≡ of-width n (firstRow (begins r) xs)
+        → firstRow (spans r n) (x ∷ xs) ≡ of-width n (firstRow (begins r) (x ∷ xs))
     go true true p q ih = simp (p, q, width)
     go true false p q ih = simp (p, q, width) (sym (no-span r n x xs p (gap .0)))
     go false t p q ih = simp p ih
 
-span-is : (r n : ℕ) → rowOfSpan r n ≡ fitting n (rowFrom r)
+span-is : (r n : ℕ) → rowOfSpan r n ≡ of-width n (rowFrom r)
 unfolding rowOfSpan rowFrom
 span-is r n = span-found r n rows all-listed all-apart
 
 pub span-none : (r n : ℕ) (f : Found) → f ≡ rowFrom r → f ≡ NoRow → NoRow ≡ rowOfSpan r n
-span-none r n f d e = sym (span-is r n ∙ ap (fitting n) (sym d ∙ e))
+span-none r n f d e = sym (span-is r n ∙ ap (of-width n) (sym d ∙ e))
 
 pub span-fits : (r n w : ℕ) (f : Found) (row : Row) → f ≡ rowFrom r → f ≡ At row → w ≡ lineAt (row .0) .registers → w ≡ n → At row ≡ rowOfSpan r n
-span-fits r n w f row d e q h = sym (span-is r n ∙ ap (fitting n) (sym d ∙ e) ∙ simp (eq-eqb (lineAt (row .0) .registers) n (sym q ∙ h)))
+span-fits r n w f row d e q h = sym (span-is r n ∙ ap (of-width n) (sym d ∙ e) ∙ simp (eq-eqb (lineAt (row .0) .registers) n (sym q ∙ h)))
 
 pub span-other : (r n w : ℕ) (f : Found) (row : Row) → f ≡ rowFrom r → f ≡ At row → w ≡ lineAt (row .0) .registers → (w ≡ n → ⊥) → NoRow ≡ rowOfSpan r n
-span-other r n w f row d e q h = sym (span-is r n ∙ ap (fitting n) (sym d ∙ e) ∙ simp (ne-eqb (lineAt (row .0) .registers) n (λ z. h (q ∙ z))))
+span-other r n w f row d e q h = sym (span-is r n ∙ ap (of-width n) (sym d ∙ e) ∙ simp (ne-eqb (lineAt (row .0) .registers) n (λ z. h (q ∙ z))))

@@ -8,7 +8,7 @@ use Rattle.table.specs.Names.{P-Nom, U-Nom, f-Nom, N-Nom, cosφ, I-magn,
 use Rattle.table.specs.declared.lines.Allowed.{Allowed}
 use Rattle.table.specs.declared.lines.Allowed.the-variants.{Between, OneOf, BelowLimt, AboveMagn, ByMode, Nothing}
 use Rattle.table.specs.declared.lines.Class.{Class}
-use Rattle.table.specs.declared.lines.Class.the-variants.{Init, Run, Read}
+use Rattle.table.specs.declared.lines.Class.the-variants.{Init, Run, OnlyRead}
 
 -- ---- the columns
 -- E: an E number, or `-`
@@ -86,12 +86,12 @@ rows =
     ∷ row Setpoint (E 0x001E) (ADI 322) 1 ByMode Run (Word 0)
     ∷ row MODE (E 0x0029) (ADI 34) 1 (these (pos 1 ∷ pos 2 ∷ pos 3 ∷ [])) Run (Word 1)
     ∷ row SCMD (E 0x00AD) (ADI 35) 1 (these (pos 0 ∷ pos 129 ∷ pos 257 ∷ [])) Run (Word 0)
-    ∷ row Inv-St-ack (E 0x00E8) (ADI 38) 1 Nothing Read NoWord
-    ∷ row Inv-St (E 0x00E9) (register 0x02A5) 1 Nothing Read NoWord
-    ∷ row SioErr (E 0x00AC) (ADI 323) 1 Nothing Read (Word 0)
-    ∷ row FrqAct (E 0x00B6) (ADI 125) 1 Nothing Read (Word 0)
-    ∷ row I-rms no-E (ADI 120) 2 Nothing Read (Word 0)
-    ∷ row OpTime no-E (ADI 39) 2 Nothing Read (Word 0)
+    ∷ row Inv-St-ack (E 0x00E8) (ADI 38) 1 Nothing OnlyRead NoWord
+    ∷ row Inv-St (E 0x00E9) (register 0x02A5) 1 Nothing OnlyRead NoWord
+    ∷ row SioErr (E 0x00AC) (ADI 323) 1 Nothing OnlyRead (Word 0)
+    ∷ row FrqAct (E 0x00B6) (ADI 125) 1 Nothing OnlyRead (Word 0)
+    ∷ row I-rms no-E (ADI 120) 2 Nothing OnlyRead (Word 0)
+    ∷ row OpTime no-E (ADI 39) 2 Nothing OnlyRead (Word 0)
     ∷ []
 
 -- a name is the line's place in the table
@@ -106,7 +106,7 @@ row-count = refl
 
 -- past the table: no register, and nothing is allowed
 abbrev pub noLine : Line
-noLine = record { registers = 0; allowed = Nothing; class = Read; start = NoWord }
+noLine = record { registers = 0; allowed = Nothing; class = OnlyRead; start = NoWord }
 
 -- the line of a row, its labels left out
 unfoldable pub lineAt : ℕ → Line

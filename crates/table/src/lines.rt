@@ -8,7 +8,7 @@ ghost use Rattle.table.specs.Table.{lineAt};
 pub enum Class {
     Init,
     Run,
-    Read,
+    OnlyRead,
 }
 
 // What the column Allowed says. `Nothing` is `-`.
@@ -46,7 +46,7 @@ impl Row {
         match row {
             P_NOM..=I_LIMT | MODE_SETTING => Class::Init,
             ACCEL..=SCMD => Class::Run,
-            _ => Class::Read,
+            _ => Class::OnlyRead,
         }
     }
 }

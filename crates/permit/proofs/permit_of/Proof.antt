@@ -16,7 +16,7 @@ permits c =
     (c .before .before .before .before .before .before .if2 .left)
     (c .before .before .before .before .before .flag-stands .ensures)
     (c .before .before .before .before .if3 .left)
-    (c .before .before .before .is-held .ensures)
+    (c .before .before .before .is-init-running .ensures)
     (c .before .before .if4 .left)
     (c .before .is-permitted .ensures)
     (c .if5 .left)

@@ -1,13 +1,13 @@
 -- `ascii_scan::begin` meets its contract: each arm is the one that the definition picks. Assumes nothing.
 use borrow.Author.Needs.{needs}
 use Rattle.base.proofs.Tests.{tests}
-use Rattle.pending.specs.Held.{emptied, restarted}
+use Rattle.pending.specs.Held.{emptied, beganWith}
 use Rattle.ascii_scan.specs.Scan.{again}
 use Rattle.ascii_scan.proofs.scanning.begin.Statement.{statement}
 use Rattle.ascii_scan.proofs.scanning.begin.Tie as tie
 
 returns : tie.Need-returns
-unfolding again restarted
+unfolding again beganWith
 returns c = search tests
 
 returns-2 : tie.Need-returns-2
