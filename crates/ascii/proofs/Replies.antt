@@ -5,7 +5,7 @@ use Prim.Native.Nat.{ℕ, suc, _+_, _-_, _≤_, _<_}
 use native.Mathlib.Omega.{arith}
 use lib.ListN.{length, take, set, length-set, length-append, replicate}
 use lib.Seq.{sets, length-sets, take-suc-set}
-use Rattle.base.specs.Buffers.{front, fitting}
+use Rattle.base.specs.Buffers.{front, fitting, replyLeast}
 use Rattle.base.proofs.Sets.{take-sets, fitting-all}
 use Rattle.checks.specs.Lrc.{lrcOf}
 use Rattle.modbus.specs.Answer.{unitOf}
@@ -17,7 +17,7 @@ use Rattle.ascii.specs.Ascii.{textOf, asciiOf}
 use Rattle.ascii.proofs.Message.{text-length}
 
 -- a reply has 19 bytes at most
-pub ascii-short : (a : ℕ) (answer : Answer) → length (asciiOf a (unitOf answer)) ≤ 19
+pub ascii-short : (a : ℕ) (answer : Answer) → length (asciiOf a (unitOf answer)) ≤ replyLeast
 unfolding asciiOf
 ascii-short a answer =
     omega (arith, text-length ((a ∷ unitOf answer) ++ lrcOf (a ∷ unitOf answer) ∷ []), length-append (a ∷ unitOf answer) (lrcOf (a ∷ unitOf answer) ∷ []), unit-short answer)
@@ -47,17 +47,17 @@ module _ (a : ℕ) (answer : Answer) (n : ℕ) (l : List ℕ) (count : n ≡ len
       ap textOf (ap (λ (i : ℕ). take i (set l n x)) k ∙ take-suc-set l n x (omega (arith, eight, unit-short answer)) ∙ ap₂ (λ (p : List ℕ) (y : ℕ). p ++ y ∷ []) is right)
 
   -- the message of the part that `put_text` was handed, in a reply buffer t of 19 bytes or more
-  whole : (t : List ℕ) (x : ℕ) → 19 ≤ length t → x ≡ lrcOf (take (n - 0) l)
+  whole : (t : List ℕ) (x : ℕ) → replyLeast ≤ length t → x ≡ lrcOf (take (n - 0) l)
       → fitting (textOf (take (n + 1 - 0) (set l n x))) (length t) ≡ replyIn (length t) (asciiOf a (unitOf answer))
   whole t x big e =
       ap (λ (y : List ℕ). fitting y (length t)) (all x e)
       ∙ fitting-all (asciiOf a (unitOf answer)) (length t) (omega (arith, ascii-short a answer))
       ∙ sym (reply-all (length t) (asciiOf a (unitOf answer)) big)
 
-  pub ascii-count : (t : List ℕ) (x r : ℕ) → 19 ≤ length t → x ≡ lrcOf (take (n - 0) l)
+  pub ascii-count : (t : List ℕ) (x r : ℕ) → replyLeast ≤ length t → x ≡ lrcOf (take (n - 0) l)
       → r ≡ length (fitting (textOf (take (n + 1 - 0) (set l n x))) (length t)) → r ≡ length (replyIn (length t) (asciiOf a (unitOf answer)))
   ascii-count t x r big e q = q ∙ ap length (whole t x big e)
 
-  pub ascii-lent : (t now : List ℕ) (x : ℕ) → 19 ≤ length t → x ≡ lrcOf (take (n - 0) l)
+  pub ascii-lent : (t now : List ℕ) (x : ℕ) → replyLeast ≤ length t → x ≡ lrcOf (take (n - 0) l)
       → now ≡ front (fitting (textOf (take (n + 1 - 0) (set l n x))) (length t)) t → now ≡ front (replyIn (length t) (asciiOf a (unitOf answer))) t
   ascii-lent t now x big e q = q ∙ ap (λ (m : List ℕ). front m t) (whole t x big e)

@@ -1,5 +1,6 @@
 // The message of Modbus ASCII: as a format of the left-to-right reading (`specs/Ascii`), and written.
 // `put_text` writes the message of some bytes, `put_ascii` the reply of an address and an answer.
+use base::REPLY_LEAST;
 use modbus::Answer;
 use modbus::put_body;
 ghost use mathlib.Core.Path.{_≡_};
@@ -31,7 +32,7 @@ pub fn put_ascii(address: u8, answer: Answer, reply: &mut [u8]) -> usize
     ensures count { λ r. ⌜ r ≡ length (replyIn (length (now (reply .entry))) (asciiOf address (unitOf answer))) ⌝ }
     ensures lent { λ _. ⌜ now (reply .exit) ≡ front (replyIn (length (now (reply .entry))) (asciiOf address (unitOf answer))) (now (reply .entry)) ⌝ }
 {
-    if reply.len() < 19 {
+    if reply.len() < REPLY_LEAST {
         return 0;
     }
     let mut bytes = [0u8; 8];

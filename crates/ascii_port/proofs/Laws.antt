@@ -4,7 +4,7 @@ use mathlib.Core.List.{List}
 use Prim.Native.Nat.{ℕ, _-_, _≤_, _<_}
 use native.Mathlib.Omega.{arith}
 use lib.ListN.{length, take, drop, length-append}
-use Rattle.base.specs.Buffers.{front}
+use Rattle.base.specs.Buffers.{front, replyLeast}
 use Rattle.base.proofs.Sets.{take-front}
 use Rattle.pending.specs.Scanning.{scanIn}
 use Rattle.pending.specs.declared.Scanned.{Scanned}
@@ -53,7 +53,7 @@ unfolding held
 takes array q p scan message r out before e d = rw (← e) d
 
 -- ---- what a caller may count on: the bytes used are there, one at least is used, and a reply has 19 bytes at most
-text-short : (address : ℕ) (said : Reply) → length (replyText address said) ≤ 19
+text-short : (address : ℕ) (said : Reply) → length (replyText address said) ≤ replyLeast
 text-short address Nothing = omega arith
 text-short address (Data answer) = Replies.ascii-short address answer
 
@@ -62,10 +62,10 @@ module _ (c : Card) (bytes : List ℕ) (room : ℕ) where
   unfolding asciiReceived
   ascii-used = streamed-used asciiStream c bytes room
 
-  pub ascii-uses : 19 ≤ room → 0 < length bytes → 0 < asciiReceived c bytes room .used
+  pub ascii-uses : replyLeast ≤ room → 0 < length bytes → 0 < asciiReceived c bytes room .used
   unfolding asciiReceived
   ascii-uses = streamed-uses asciiStream c bytes room
 
-  pub ascii-short : length (asciiReceived c bytes room .reply) ≤ 19
+  pub ascii-short : length (asciiReceived c bytes room .reply) ≤ replyLeast
   unfolding asciiReceived
-  ascii-short = streamed-short asciiStream c bytes room 19 (λ scan. text-short (addressAmong (bytesIn (held (scan .pending)))) (exchangeOn c (bytesIn (held (scan .pending))) .reply))
+  ascii-short = streamed-short asciiStream c bytes room replyLeast (λ scan. text-short (addressAmong (bytesIn (held (scan .pending)))) (exchangeOn c (bytesIn (held (scan .pending))) .reply))

@@ -12,3 +12,7 @@ front bytes buffer = bytes ++ drop (length bytes) buffer
 -- the bytes where there is room for all of them, and else none
 unfoldable pub fitting : List ℕ → ℕ → List ℕ
 fitting bytes room = pick (ltb room (length bytes)) [] bytes
+
+-- "A reply buffer under 19 bytes is 10": the least reply buffer
+abbrev pub replyLeast : ℕ
+replyLeast = 19

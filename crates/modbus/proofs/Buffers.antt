@@ -7,25 +7,25 @@ use borrow.Author.Tests.{lt-ltb, le-ltb}
 use lib.ListN.{length}
 use mir.Syntax.{w64}
 use mir.Val.{Fits}
-use Rattle.base.specs.Buffers.{front}
+use Rattle.base.specs.Buffers.{front, replyLeast}
 use Rattle.modbus.specs.Answer.{unitOf}
 use Rattle.modbus.specs.Reply.{replyIn}
 use Rattle.modbus.specs.declared.replies.Answer.{Answer}
 use Rattle.modbus.proofs.Units.{unit-short}
 
 -- ---- a buffer under 19 bytes gets nothing, any other gets the reply
-pub reply-none : (size : ℕ) (reply : List ℕ) → size < 19 → replyIn size reply ≡ []
+pub reply-none : (size : ℕ) (reply : List ℕ) → size < replyLeast → replyIn size reply ≡ []
 unfolding replyIn
-reply-none size reply h = rw (lt-ltb size 19 h)
+reply-none size reply h = rw (lt-ltb size replyLeast h)
 
-pub reply-all : (size : ℕ) (reply : List ℕ) → 19 ≤ size → replyIn size reply ≡ reply
+pub reply-all : (size : ℕ) (reply : List ℕ) → replyLeast ≤ size → replyIn size reply ≡ reply
 unfolding replyIn
-reply-all size reply h = rw (le-ltb size 19 h)
+reply-all size reply h = rw (le-ltb size replyLeast h)
 
-pub none-count : (size : ℕ) (reply : List ℕ) → size < 19 → 0 ≡ length (replyIn size reply)
+pub none-count : (size : ℕ) (reply : List ℕ) → size < replyLeast → 0 ≡ length (replyIn size reply)
 none-count size reply h = rw (reply-none size reply h)
 
-pub none-lent : (reply before : List ℕ) → length before < 19 → before ≡ front (replyIn (length before) reply) before
+pub none-lent : (reply before : List ℕ) → length before < replyLeast → before ≡ front (replyIn (length before) reply) before
 unfolding front
 none-lent reply before h = rw (reply-none (length before) reply h)
 

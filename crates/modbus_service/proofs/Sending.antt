@@ -3,7 +3,7 @@ use mathlib.Core.Path.{_≡_, refl, sym}
 use mathlib.Core.List.{List}
 use Prim.Native.Nat.{ℕ, _≤_}
 use lib.ListN.{length}
-use Rattle.base.specs.Buffers.{front}
+use Rattle.base.specs.Buffers.{front, replyLeast}
 use Rattle.base.proofs.Sets.{front-none}
 use Rattle.modbus.specs.Answer.{unitOf}
 use Rattle.modbus.specs.Reply.{replyIn}
@@ -21,6 +21,6 @@ module _ (made : ℕ → List ℕ → List ℕ) (address : ℕ) (said : Reply) (
   pub put-none : said ≡ Nothing → Puts 0 before (sentBy made address said)
   put-none is = rw is (refl, sym (front-none before))
 
-  pub put-unit : (n : ℕ) (answer : Answer) (out : List ℕ) → 19 ≤ length before → said ≡ Data answer
+  pub put-unit : (n : ℕ) (answer : Answer) (out : List ℕ) → replyLeast ≤ length before → said ≡ Data answer
       → Puts n out (replyIn (length before) (made address (unitOf answer))) → Puts n out (sentBy made address said)
   put-unit n answer out room is puts = rw is (rw (reply-all (length before) (made address (unitOf answer)) room) at puts)

@@ -5,7 +5,7 @@ use Prim.Native.Nat.{ℕ, _%_, _≤_, _<_}
 use native.Mathlib.Omega.{arith}
 use lib.Dec.{eqb}
 use lib.ListN.{length}
-use Rattle.base.specs.Buffers.{front, fitting}
+use Rattle.base.specs.Buffers.{front, fitting, replyLeast}
 use Rattle.base.proofs.Sets.{fitting-all}
 use Rattle.base.proofs.Tests.{pick-both}
 use Rattle.nfo_parts.specs.declared.message.Message.{Message}
@@ -43,7 +43,7 @@ unfolding replied
 reply-short m a = pick-both (λ (b : List ℕ). length b ≤ 14) (eqb (adrIn m) 0x7F) (λ _. omega arith) (λ _. by-short (adrIn m) (eNumberIn (parameterIn m)) a)
 
 -- ---- a message is taken: it is in `held`. The port and the plant are q and p; once it was served y and x; and z is the port with the time sum that the answer leaves
-module _ (held : List ℕ) (q y z : Numbers) (p x : Plant) (scan : Scanned) (m : Message) (a : Answer) (n : ℕ) (out before : List ℕ) (room : 19 ≤ length before)
+module _ (held : List ℕ) (q y z : Numbers) (p x : Plant) (scan : Scanned) (m : Message) (a : Answer) (n : ℕ) (out before : List ℕ) (room : replyLeast ≤ length before)
     (parts : m ≡ messageOf held) (serves : _≡_ {A = Served} (record { plant = x; port = y; answer = a }) (Serve.served p q m)) (leaves : z ≡ portAfter a y)
     (puts : (n ≡ length (fitting (replied m a) (length before))) × (out ≡ front (fitting (replied m a) (length before)) before)) where
   whole : fitting (replied m a) (length before) ≡ replied m a
@@ -62,7 +62,7 @@ module _ (c : Card) (bytes : List ℕ) (room : ℕ) where
   unfolding nfoReceived
   nfo-used = streamed-used nfoStream c bytes room
 
-  pub nfo-uses : 19 ≤ room → 0 < length bytes → 0 < nfoReceived c bytes room .used
+  pub nfo-uses : replyLeast ≤ room → 0 < length bytes → 0 < nfoReceived c bytes room .used
   unfolding nfoReceived
   nfo-uses = streamed-uses nfoStream c bytes room
 

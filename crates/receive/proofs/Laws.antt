@@ -6,6 +6,7 @@ use native.Mathlib.Omega.{arith}
 use borrow.Author.Tests.{ne-eqb}
 use lib.Dec.{eqb}
 use lib.ListN.{length}
+use Rattle.base.specs.Buffers.{replyLeast}
 use Rattle.base.proofs.Tests.{pick-both}
 use Rattle.card.specs.State.{protocolOf}
 use Rattle.card.specs.declared.state.Card.{Card}
@@ -43,12 +44,12 @@ module _ (c : Card) (bytes : List ℕ) (room : ℕ) where
   pub received-used : received c bytes room .used ≤ length bytes
   received-used = of-each (λ (r : Received). r .used ≤ length bytes) (rtu-used c bytes room) (ascii-used c bytes room) (nfo-used c bytes room)
 
-  pub received-uses : 19 ≤ room → 0 < length bytes → 0 < received c bytes room .used
+  pub received-uses : replyLeast ≤ room → 0 < length bytes → 0 < received c bytes room .used
   received-uses h l = of-each (λ (r : Received). 0 < r .used) (rtu-uses c bytes room h l) (ascii-uses c bytes room h l) (nfo-uses c bytes room h l)
 
-  pub received-short : length (received c bytes room .reply) ≤ 19
+  pub received-short : length (received c bytes room .reply) ≤ replyLeast
   received-short =
-      of-each (λ (r : Received). length (r .reply) ≤ 19) (omega (arith, rtu-short c bytes room)) (ascii-short c bytes room) (omega (arith, nfo-short c bytes room))
+      of-each (λ (r : Received). length (r .reply) ≤ replyLeast) (omega (arith, rtu-short c bytes room)) (ascii-short c bytes room) (omega (arith, nfo-short c bytes room))
 
 -- the call of a protocol is the call
 pub does : (r : Turn) (out before : List ℕ) (k l : Received) → k ≡ l → Does r out l before → Does r out k before

@@ -5,7 +5,7 @@ use Prim.Native.Nat.{ℕ, _+_, _-_, _/_, _%_, _≤_, _<_}
 use native.Mathlib.Omega.{arith}
 use lib.ListN.{length, take, set, length-set, length-append}
 use lib.Seq.{sets, length-sets}
-use Rattle.base.specs.Buffers.{front}
+use Rattle.base.specs.Buffers.{front, replyLeast}
 use Rattle.base.proofs.Sets.{tailed, take-sets, sets-front}
 use Rattle.checks.specs.Crc.{crcOf, crcBytes}
 use Rattle.modbus.specs.Answer.{unitOf}
@@ -20,7 +20,7 @@ unfolding rtuOf crcBytes
 rtu-length a u = omega (arith, length-append (a ∷ u) (crcBytes (a ∷ u)))
 
 -- ---- the body, of n bytes, is stored from the start of the buffer r, which is now l
-module _ (a : ℕ) (answer : Answer) (n : ℕ) (r l : List ℕ) (big : 19 ≤ length r) (count : n ≡ length (a ∷ unitOf answer)) (lent : l ≡ sets r 0 (a ∷ unitOf answer)) where
+module _ (a : ℕ) (answer : Answer) (n : ℕ) (r l : List ℕ) (big : replyLeast ≤ length r) (count : n ≡ length (a ∷ unitOf answer)) (lent : l ≡ sets r 0 (a ∷ unitOf answer)) where
   body-length : length l ≡ length r
   body-length = ap length lent ∙ length-sets r 0 (a ∷ unitOf answer)
 

@@ -1,6 +1,7 @@
 // The RTU frame of Modbus: address, data unit, CRC.
 // `frame_holds`, `address_in` and `unit_in` read a request's frame, `register_data` hands out a part of it, `register_span` says where that lies, and
 // `put_rtu` writes a reply's.
+use base::REPLY_LEAST;
 use modbus::Answer;
 use modbus::Request;
 use modbus::Span;
@@ -88,7 +89,7 @@ pub fn put_rtu(address: u8, answer: Answer, reply: &mut [u8]) -> usize
     ensures count { λ r. ⌜ r ≡ length (replyIn (length (now (reply .entry))) (rtuOf address (unitOf answer))) ⌝ }
     ensures lent { λ _. ⌜ now (reply .exit) ≡ front (replyIn (length (now (reply .entry))) (rtuOf address (unitOf answer))) (now (reply .entry)) ⌝ }
 {
-    if reply.len() < 19 {
+    if reply.len() < REPLY_LEAST {
         return 0;
     }
     let end = put_body(address, answer, reply);

@@ -7,7 +7,7 @@ use native.Mathlib.Omega.{arith}
 use borrow.Author.Tests.{lt-ltb, le-ltb, not-true, not-false}
 use lib.Dec.{ltb}
 use lib.ListN.{length}
-use Rattle.base.specs.Buffers.{front}
+use Rattle.base.specs.Buffers.{front, replyLeast}
 use Rattle.base.proofs.Tests.{pick-both}
 use Rattle.modbus.specs.Answer.{unitOf}
 use Rattle.modbus.proofs.Units.{unit-short}
@@ -44,22 +44,22 @@ module _ (held : List ℕ) (len : ℕ) (q : Numbers) (p : Plant) (frame before :
   abbrev call : Received
   call = rtuReceived (cardOf held len q p) frame (length before)
 
-  pub short : (r : Turned) → length before < 19 → r ≡ shortIn len → Does (turnIn held q p r) before call before
+  pub short : (r : Turned) → length before < replyLeast → r ≡ shortIn len → Does (turnIn held q p r) before call before
   unfolding rtuReceived
-  short r h e = simp (lt-ltb (length before) 19 h) (silent (turnIn held q p r) (tooShort (cardOf held len q p)) before refl (ap (turnIn held q p) e))
+  short r h e = simp (lt-ltb (length before) replyLeast h) (silent (turnIn held q p r) (tooShort (cardOf held len q p)) before refl (ap (turnIn held q p) e))
 
-  pub spoils : (holds : Bool) (r : Turned) → 19 ≤ length before → holds ≡ frameHolds frame → not holds ≡ true → r ≡ spoiltIn len (length frame)
+  pub spoils : (holds : Bool) (r : Turned) → replyLeast ≤ length before → holds ≡ frameHolds frame → not holds ≡ true → r ≡ spoiltIn len (length frame)
       → Does (turnIn held q p r) before call before
   unfolding rtuReceived
   spoils holds r h d t e =
-      simp (le-ltb (length before) 19 h, ← d, not-true holds t)
+      simp (le-ltb (length before) replyLeast h, ← d, not-true holds t)
       (silent (turnIn held q p r) (spoilt (cardOf held len q p) (length frame)) before refl (ap (turnIn held q p) e))
 
   -- what was pending does not matter to a frame that is taken
-  pub holds-one : (holds : Bool) (r : Turn) (out : List ℕ) → 19 ≤ length before → holds ≡ frameHolds frame → not holds ≡ false
+  pub holds-one : (holds : Bool) (r : Turn) (out : List ℕ) → replyLeast ≤ length before → holds ≡ frameHolds frame → not holds ≡ false
       → Does r out (taken (cardOf held 0 q p) frame) before → Does r out call before
   unfolding rtuReceived cardAfter emptied
-  holds-one holds r out h d t e = simp (le-ltb (length before) 19 h, ← d, not-false holds t) e
+  holds-one holds r out h d t e = simp (le-ltb (length before) replyLeast h, ← d, not-false holds t) e
 
 -- ---- what a caller may count on: the bytes used are there, one at least is used, and a reply has 9 bytes at most
 frame-short : (address : ℕ) (said : Reply) → length (frameOf address said) ≤ 9
@@ -70,15 +70,15 @@ module _ (c : Card) (frame : List ℕ) (room : ℕ) where
   pub rtu-used : rtuReceived c frame room .used ≤ length frame
   unfolding rtuReceived
   rtu-used =
-      pick-both (λ (r : Received). r .used ≤ length frame) (ltb room 19) (λ e. omega arith)
+      pick-both (λ (r : Received). r .used ≤ length frame) (ltb room replyLeast) (λ e. omega arith)
       (λ e. pick-both (λ (r : Received). r .used ≤ length frame) (frameHolds frame) (λ k. omega arith) (λ k. omega arith))
 
-  pub rtu-uses : 19 ≤ room → 0 < length frame → 0 < rtuReceived c frame room .used
+  pub rtu-uses : replyLeast ≤ room → 0 < length frame → 0 < rtuReceived c frame room .used
   unfolding rtuReceived
-  rtu-uses h l = simp (le-ltb room 19 h) (pick-both (λ (r : Received). 0 < r .used) (frameHolds frame) (λ k. l) (λ k. l))
+  rtu-uses h l = simp (le-ltb room replyLeast h) (pick-both (λ (r : Received). 0 < r .used) (frameHolds frame) (λ k. l) (λ k. l))
 
   pub rtu-short : length (rtuReceived c frame room .reply) ≤ 9
   unfolding rtuReceived
   rtu-short =
-      pick-both (λ (r : Received). length (r .reply) ≤ 9) (ltb room 19) (λ e. omega arith)
+      pick-both (λ (r : Received). length (r .reply) ≤ 9) (ltb room replyLeast) (λ e. omega arith)
       (λ e. pick-both (λ (r : Received). length (r .reply) ≤ 9) (frameHolds frame) (λ k. frame-short (addressIn frame) (exchangeOn c frame .reply)) (λ k. omega arith))

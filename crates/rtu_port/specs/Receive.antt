@@ -4,6 +4,7 @@ use Prim.Native.Nat.{ℕ}
 use lib.Dec.{ltb}
 use lib.ListN.{length}
 use Rattle.base.specs.Choice.{pick}
+use Rattle.base.specs.Buffers.{replyLeast}
 use Rattle.rtu.specs.Rtu.{frameHolds, addressIn, unitIn, rtuOf}
 use Rattle.modbus_service.specs.Reply.{sentBy, Exchanged, exchanged}
 use Rattle.modbus_service.specs.declared.Reply.{Reply}
@@ -34,4 +35,4 @@ taken c frame = answered (c .port .pending) (length frame) (exchangeOn c frame .
 
 -- "Order: 10 first, in every reply call; .. Modbus 11, 1 by address, .."
 unfoldable pub rtuReceived : Card → List ℕ → ℕ → Received
-rtuReceived c frame room = pick (ltb room 19) (tooShort c) (pick (frameHolds frame) (taken c frame) (spoilt c (length frame)))
+rtuReceived c frame room = pick (ltb room replyLeast) (tooShort c) (pick (frameHolds frame) (taken c frame) (spoilt c (length frame)))

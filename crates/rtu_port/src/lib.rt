@@ -1,4 +1,5 @@
 // Modbus RTU on the card's port: `receive` takes one frame a call, serves its data unit and replies to it. The card's parts are lent where they lie.
+use base::REPLY_LEAST;
 use card::Outcome;
 use drive::Plant;
 use modbus_service::Reply;
@@ -9,7 +10,7 @@ use turn::short_buffer;
 ghost use mathlib.Core.Path.{_≡_};
 ghost use Prim.Native.Nat.{_≤_};
 ghost use lib.ListN.{length};
-ghost use Rattle.base.specs.Buffers.{front};
+ghost use Rattle.base.specs.Buffers.{front, replyLeast};
 ghost use Rattle.turn.specs.Turn.{turnOf};
 ghost use Rattle.card.specs.State.{cardOf};
 ghost use Rattle.turn.specs.Turned.{turnIn};
@@ -27,7 +28,7 @@ pub fn receive(
     ensures turn { λ r. ⌜ turnIn (now (held .entry)) (now (port .exit)) (now (plant .exit)) r ≡ turnOf (rtuReceived (cardOf (now (held .entry)) len (now (port .entry)) (now (plant .entry))) (now (frame .entry)) (length (now (reply .entry)))) ⌝ }
     ensures lent { λ _. ⌜ now (reply .exit) ≡ front (rtuReceived (cardOf (now (held .entry)) len (now (port .entry)) (now (plant .entry))) (now (frame .entry)) (length (now (reply .entry))) .reply) (now (reply .entry)) ⌝ }
 {
-    if reply.len() < 19 {
+    if reply.len() < REPLY_LEAST {
         return short_buffer(len);
     }
     if !rtu::frame_holds(frame) {
@@ -56,7 +57,7 @@ fn take(
     frame: &[u8],
     reply: &mut [u8],
 ) -> Turned
-    requires { ⌜ 19 ≤ length (now reply) ⌝ }
+    requires { ⌜ replyLeast ≤ length (now reply) ⌝ }
     ensures turn { λ r. ⌜ turnIn (now (held .entry)) (now (port .exit)) (now (plant .exit)) r ≡ turnOf (taken (cardOf (now (held .entry)) 0 (now (port .entry)) (now (plant .entry))) (now (frame .entry))) ⌝ }
     ensures lent { λ _. ⌜ now (reply .exit) ≡ front (taken (cardOf (now (held .entry)) 0 (now (port .entry)) (now (plant .entry))) (now (frame .entry)) .reply) (now (reply .entry)) ⌝ }
 {
@@ -77,7 +78,7 @@ fn take(
 
 // Puts the reply's frame, where there is a reply.
 fn put(address: u8, said: Reply, reply: &mut [u8]) -> usize
-    requires { ⌜ 19 ≤ length (now reply) ⌝ }
+    requires { ⌜ replyLeast ≤ length (now reply) ⌝ }
     ensures count { λ r. ⌜ r ≡ length (frameOf address said) ⌝ }
     ensures lent { λ _. ⌜ now (reply .exit) ≡ front (frameOf address said) (now (reply .entry)) ⌝ }
 {

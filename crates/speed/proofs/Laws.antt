@@ -4,6 +4,7 @@ use mathlib.Core.List.{List}
 use Prim.Native.Nat.{ℕ, _+_, _-_, _≤_, _<_}
 use native.Mathlib.Omega.{arith}
 use lib.ListN.{length, take, drop, length-take, length-drop}
+use Rattle.base.specs.Buffers.{replyLeast}
 use Rattle.port.specs.Port.{Numbers}
 use Rattle.drive.specs.Plant.{Plant}
 use Rattle.card.specs.declared.state.Card.{Card}
@@ -21,7 +22,7 @@ module _ (c : Card) (bytes : List ℕ) (room : ℕ) (held : List ℕ) (q : Numbe
   pub used-within : t .used ≤ length bytes
   used-within = omega (arith, same-used, received-used c bytes room)
 
-  pub used-some : 19 ≤ room → 0 < length bytes → 0 < t .used
+  pub used-some : replyLeast ≤ room → 0 < length bytes → 0 < t .used
   used-some h l = omega (arith, same-used, received-uses c bytes room h l)
 
 -- a round comes nearer to the end of the workload

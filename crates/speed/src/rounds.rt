@@ -1,4 +1,5 @@
 // Rounds over a workload, in memory: its pieces go to the card one after another, the unused rest of a piece again at once.
+use base::REPLY_LEAST;
 use drive::Plant;
 use port::Numbers;
 use port::PROTOCOL;
@@ -23,7 +24,7 @@ pub(crate) fn round(
     bytes: &[u8],
     ends: &[usize; 4096],
 ) -> Tally {
-    let mut reply = [0u8; 19];
+    let mut reply = [0u8; REPLY_LEAST];
     let mut t = tally;
     let rtu = port[PROTOCOL] == 1;
     let mut at: usize = 0;
@@ -53,7 +54,7 @@ fn call(
     plant: &mut Plant,
     tally: Tally,
     bytes: &[u8],
-    reply: &mut [u8; 19],
+    reply: &mut [u8; REPLY_LEAST],
 ) -> Called
     ensures within { λ r. ⌜ r .used ≤ length (now (bytes .entry)) ⌝ }
     ensures some { λ r. ⌜ (0 < length (now (bytes .entry)) → 0 < r .used) ⌝ }

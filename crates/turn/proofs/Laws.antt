@@ -7,7 +7,7 @@ use native.Mathlib.Omega.{arith}
 use borrow.Author.Tests.{lt-ltb, le-ltb, not-true, not-false}
 use lib.Dec.{ltb}
 use lib.ListN.{length}
-use Rattle.base.specs.Buffers.{front}
+use Rattle.base.specs.Buffers.{front, replyLeast}
 use Rattle.base.proofs.Sets.{front-none}
 use Rattle.base.proofs.Tests.{pick-both}
 use Rattle.pending.specs.Held.{emptied}
@@ -40,20 +40,20 @@ module _ (S : Stream) (held : List ℕ) (len : ℕ) (q : Numbers) (p : Plant) (b
   call = streamed S (cardOf held len q p) bytes (length before)
 
   -- "A reply buffer under 19 bytes is 10, with no byte used"
-  pub short : (r : Turned) → length before < 19 → r ≡ shortIn len → Does (turnIn held q p r) before call before
-  short r h e = simp (lt-ltb (length before) 19 h) (silent (turnIn held q p r) (tooShort (cardOf held len q p)) before refl (ap (turnIn held q p) e))
+  pub short : (r : Turned) → length before < replyLeast → r ≡ shortIn len → Does (turnIn held q p r) before call before
+  short r h e = simp (lt-ltb (length before) replyLeast h) (silent (turnIn held q p r) (tooShort (cardOf held len q p)) before refl (ap (turnIn held q p) e))
 
   -- what the scan leaves in the array
-  module _ (left : List ℕ) (scan : Scanned) (h : 19 ≤ length before)
+  module _ (left : List ℕ) (scan : Scanned) (h : replyLeast ≤ length before)
       (d : scanIn left scan ≡ scanFrom (S .feeding) (record { bytes = held; len = len }) 0 bytes) where
     pub waits : (r : Turned) → not (scan .taken) ≡ true → r ≡ waitingIn scan → Does (turnIn left q p r) before call before
     unfolding waiting
     waits r t e =
-        simp (le-ltb (length before) 19 h, ← d, not-true (scan .taken) t)
+        simp (le-ltb (length before) replyLeast h, ← d, not-true (scan .taken) t)
         (silent (turnIn left q p r) (waiting (cardOf held len q p) (scanIn left scan)) before refl (ap (turnIn left q p) e))
 
     pub takes : (r : Turn) (out : List ℕ) → not (scan .taken) ≡ false → Does r out (taken S (cardOf held len q p) (scanIn left scan)) before → Does r out call before
-    takes r out t e = simp (le-ltb (length before) 19 h, ← d, not-false (scan .taken) t) e
+    takes r out t e = simp (le-ltb (length before) replyLeast h, ← d, not-false (scan .taken) t) e
 
 -- a message was served: the parts of the card then, with nothing pending, are the card then
 pub after-in : (held : List ℕ) (n : ℕ) (q : Numbers) (s : Served) → q ≡ portAfter (s .answer) (s .port) → cardOf held 0 q (s .plant) ≡ cardAfter (record { bytes = held; len = n }) s
@@ -66,21 +66,21 @@ module _ (S : Stream) (c : Card) (bytes : List ℕ) (room : ℕ) where
   unfolding waiting
   streamed-used =
       let most : scanFrom (S .feeding) (c .port .pending) 0 bytes .used ≤ 0 + length bytes = scan-used (S .feeding) bytes (c .port .pending) 0 .1 in
-      pick-both (λ (r : Received). r .used ≤ length bytes) (ltb room 19) (λ e. omega arith)
+      pick-both (λ (r : Received). r .used ≤ length bytes) (ltb room replyLeast) (λ e. omega arith)
       (λ e. pick-both (λ (r : Received). r .used ≤ length bytes) (scanFrom (S .feeding) (c .port .pending) 0 bytes .taken) (λ k. omega arith) (λ k. omega arith))
 
-  pub streamed-uses : 19 ≤ room → 0 < length bytes → 0 < streamed S c bytes room .used
+  pub streamed-uses : replyLeast ≤ room → 0 < length bytes → 0 < streamed S c bytes room .used
   unfolding waiting
   streamed-uses h l =
       let least : 0 < scanFrom (S .feeding) (c .port .pending) 0 bytes .used = scan-uses (S .feeding) bytes (c .port .pending) 0 l in
-      simp (le-ltb room 19 h)
+      simp (le-ltb room replyLeast h)
       (pick-both (λ (r : Received). 0 < r .used) (scanFrom (S .feeding) (c .port .pending) 0 bytes .taken) (λ k. least) (λ k. least))
 
   -- a reply is no longer than the protocol's are
   pub streamed-short : (most : ℕ) → ((scan : Scan) → length (S .reply c (scan .pending)) ≤ most) → length (streamed S c bytes room .reply) ≤ most
   unfolding waiting
   streamed-short most all =
-      pick-both (λ (r : Received). length (r .reply) ≤ most) (ltb room 19) (λ e. omega arith)
+      pick-both (λ (r : Received). length (r .reply) ≤ most) (ltb room replyLeast) (λ e. omega arith)
       (λ e. pick-both (λ (r : Received). length (r .reply) ≤ most) (scanFrom (S .feeding) (c .port .pending) 0 bytes .taken) (λ k. all (scanFrom (S .feeding) (c .port .pending) 0 bytes)) (λ k. omega arith))
 
 -- an arm of a `match` on the answer

@@ -3,6 +3,7 @@ use mathlib.Core.List.{List}
 use Prim.Native.Nat.{ℕ}
 use lib.Dec.{ltb}
 use Rattle.base.specs.Choice.{pick}
+use Rattle.base.specs.Buffers.{replyLeast}
 use Rattle.pending.specs.declared.Pending.{Pending}
 use Rattle.pending.specs.Scanning.{Scan, Feeding, scanFrom}
 use Rattle.service.specs.Serving.{Served}
@@ -24,4 +25,4 @@ byScan S c scan = pick (scan .taken) (taken S c scan) (waiting c scan)
 
 -- "Order: 10 first, in every reply call"
 abbrev pub streamed : Stream → Card → List ℕ → ℕ → Received
-streamed S c bytes room = pick (ltb room 19) (tooShort c) (byScan S c (scanFrom (S .feeding) (c .port .pending) 0 bytes))
+streamed S c bytes room = pick (ltb room replyLeast) (tooShort c) (byScan S c (scanFrom (S .feeding) (c .port .pending) 0 bytes))
