@@ -6,7 +6,7 @@ use borrow.Author.Tests.{lt-ltb, le-ltb, eq-eqb, ne-eqb}
 use lib.Bits.{bitOr}
 use lib.ListN.{getD}
 use Rattle.table.specs.Names.{SioTot}
-use Rattle.port.specs.Port.{Numbers, sum, sioerr, withSum, withSioerr, fresh}
+use Rattle.port.specs.Port.{Numbers, TimeOut, Parity, sum, sioerr, withSum, withSioerr, fresh}
 use Rattle.drive.specs.Plant.{Plant}
 use Rattle.drive.specs.Plant as Plants
 use Rattle.drive.specs.declared.events.Measured.{Measured}
@@ -62,7 +62,7 @@ pub faulted-of : (q : Numbers) (p x : Plant) (bit : ℕ) → x ≡ portFault p �
 unfolding portFaulted
 faulted-of q p x bit a = rw a
 
-pub parity-of : (c k : Card) (y x : Plant) → _≡_ {A = Core} (record { port = y; plant = x }) (portFaulted 2 (coreOf c)) → k ≡ withCore (record { port = y; plant = x }) c
+pub parity-of : (c k : Card) (y x : Plant) → _≡_ {A = Core} (record { port = y; plant = x }) (portFaulted Parity (coreOf c)) → k ≡ withCore (record { port = y; plant = x }) c
     → record { card = k; outcome = Done } ≡ parityTold c
 unfolding parityTold
 parity-of c k y x a b = ap (λ (z : Card). record { card = z; outcome = Done }) (b ∙ ap (λ (t : Core). withCore t c) a)
@@ -74,7 +74,7 @@ module _ (q : Numbers) (p : Plant) (limit n total : ℕ) where
   counted-off h = simp (eq-eqb _ _ h)
 
   pub counted-above : (y x : Plant) → (limit ≡ 0 → ⊥) → total ≡ sum q + n → limit < total
-      → _≡_ {A = Core} (record { port = y; plant = x }) (portFaulted 1 (record { port = withSum 0 q; plant = p }))
+      → _≡_ {A = Core} (record { port = y; plant = x }) (portFaulted TimeOut (record { port = withSum 0 q; plant = p }))
       → _≡_ {A = Core} (record { port = y; plant = x }) (counted limit n (record { port = q; plant = p }))
   unfolding counted
   counted-above y x h t l e = simp (ne-eqb _ _ h, lt-ltb _ _ (rw t at l)) e

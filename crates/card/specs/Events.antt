@@ -6,7 +6,7 @@ use lib.Dec.{eqb, ltb}
 use lib.ListN.{getD}
 use Rattle.base.specs.Choice.{pick, either}
 use Rattle.table.specs.Names.{SioTot}
-use Rattle.port.specs.Port.{sum, sioerr, withSum, withSioerr}
+use Rattle.port.specs.Port.{TimeOut, Parity, sum, sioerr, withSum, withSioerr}
 use Rattle.drive.specs.declared.events.Measured.{Measured}
 use Rattle.drive.specs.Plant.{Plant}
 use Rattle.drive.specs.Events.{Event, raised, ended, portFault, withActive, withMeasured}
@@ -49,7 +49,7 @@ unfoldable pub portFaulted : ℕ → Core → Core
 portFaulted bit k = record { port = withSioerr (bitOr (sioerr (k .port)) bit) (k .port); plant = portFault (k .plant) }
 
 unfoldable pub parityTold : Card → After
-parityTold c = record { card = withCore (portFaulted 2 (coreOf c)) c; outcome = Done }
+parityTold c = record { card = withCore (portFaulted Parity (coreOf c)) c; outcome = Done }
 
 -- the time sum is this
 abbrev pub summed : ℕ → Core → Core
@@ -59,7 +59,7 @@ summed x k = record { port = withSum x (k .port); plant = k .plant }
 unfoldable pub counted : ℕ → ℕ → Core → Core
 counted limit n k =
     pick (eqb limit 0) (summed 0 k)
-    (pick (ltb limit (sum (k .port) + n)) (portFaulted 1 (summed 0 k)) (summed (sum (k .port) + n) k))
+    (pick (ltb limit (sum (k .port) + n)) (portFaulted TimeOut (summed 0 k)) (summed (sum (k .port) + n) k))
 
 -- the core after a tick, and its outcome
 pub record Ticked : Type 0 where

@@ -6,11 +6,14 @@ use crate::state::Port;
 use drive::Measured;
 use drive::Plant;
 use port::Numbers;
+use port::PARITY;
 use port::SIOERR;
 use port::SUM;
+use port::TIME_OUT;
 use table::names::SIO_TOT;
 ghost use mathlib.Core.Path.{_≡_};
 ghost use Prim.Native.Nat.{_+_};
+ghost use Rattle.port.specs.Port.{Parity};
 ghost use Rattle.card.specs.State.{withPlant, withCore};
 ghost use Rattle.card.specs.Events.{happened, eventOutcome, eventOn, faultRaised, causeEnded, din1Set, measuredSet, parityTold, portFaulted, counted, tickedIn, ticked};
 
@@ -19,11 +22,6 @@ pub struct After {
     pub card: Card,
     pub outcome: Outcome,
 }
-
-// The bit of a time-out in SioErr, and that of a parity fault.
-const TIME_OUT: u32 = 1;
-
-const PARITY: u32 = 2;
 
 // The outcome of an event that named a fault: 0, or 12 where there is none of that number.
 pub fn event_outcome(known: bool) -> Outcome
@@ -45,7 +43,7 @@ fn port_fault(port: &mut Numbers, plant: &mut Plant, bit: u32)
 
 // The host tells a parity fault of the port.
 pub fn parity_fault_in(port: &mut Numbers, plant: &mut Plant)
-    ensures { λ _. ⌜ record { port = now (port .exit); plant = now (plant .exit) } ≡ portFaulted 2 (record { port = now (port .entry); plant = now (plant .entry) }) ⌝ }
+    ensures { λ _. ⌜ record { port = now (port .exit); plant = now (plant .exit) } ≡ portFaulted Parity (record { port = now (port .entry); plant = now (plant .entry) }) ⌝ }
 {
     port_fault(port, plant, PARITY);
 }

@@ -7,7 +7,7 @@ use native.Mathlib.Omega.{arith}
 use lib.ListN.{length, take, drop, length-drop}
 use lib.Seq.{length-take-le}
 use Rattle.base.specs.Buffers.{front}
-use Rattle.port.specs.Port.{Numbers, fresh}
+use Rattle.port.specs.Port.{Numbers, Parity, fresh}
 use Rattle.port.specs.Port as Ports
 use Rattle.drive.specs.Plant.{Plant}
 use Rattle.drive.specs.Plant as Plants
@@ -64,7 +64,7 @@ unfolding measuredSet
 measured-in p x measured a port = simp a (refl, refl)
 
 -- ---- an event on the port and the plant
-pub parity-in : (q p y x : Plant) → _≡_ {A = Core} (record { port = y; plant = x }) (portFaulted 2 (record { port = q; plant = p })) → OnPort parityTold q p y x 0
+pub parity-in : (q p y x : Plant) → _≡_ {A = Core} (record { port = y; plant = x }) (portFaulted Parity (record { port = q; plant = p })) → OnPort parityTold q p y x 0
 unfolding parityTold
 parity-in q p y x a pending = simp (← a) (refl, refl)
 

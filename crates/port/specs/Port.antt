@@ -16,6 +16,13 @@ Sum = 1
 abbrev pub Sioerr : ℕ
 Sioerr = 2
 
+-- ---- "SioErr (ours): bit 0 time-out, bit 1 parity fault told by the host", each as its mask
+abbrev pub TimeOut : ℕ
+TimeOut = 1
+
+abbrev pub Parity : ℕ
+Parity = 2
+
 -- ---- a number of the port
 abbrev pub protocol : Numbers → ℕ
 protocol q = getD q ProtocolAt 0

@@ -10,5 +10,11 @@ pub const PROTOCOL: usize = 0;
 // The time sum, in tenths.
 pub const SUM: usize = 1;
 
-// SioErr: bit 0 time-out, bit 1 parity fault.
+// SioErr, by its bits.
 pub const SIOERR: usize = 2;
+
+// Bit 0 of SioErr: a time-out.
+pub const TIME_OUT: u32 = 1;
+
+// Bit 1 of SioErr: a parity fault, told by the host.
+pub const PARITY: u32 = 2;
