@@ -6,23 +6,15 @@ use Prim.Native.Nat.{ℕ}
 use Rattle.table.specs.Names.{P-Nom, I-magn, R-fix1, SpdScl-num, MODE, SCMD, Inv-St}
 use Rattle.table.specs.Table.{rows, lineAt, startWords}
 use Rattle.allowed.specs.Allowed.{twos, integerOf, within, member, belowLimt, aboveMagn, atMode, setpointAllows, allows, allowedAt}
-use Rattle.answers.specs.Answer.{refusalNumber}
 use Rattle.drive.specs.Plant.{Plant, started}
 use Rattle.drive.specs.Faults.{active, flagStands, runs, flagRaised}
 use Rattle.drive.specs.Events.{portFault, withActive}
 use Rattle.drive.specs.Cases.{bus, bus-runs, silent}
-use Rattle.permit.specs.declared.Permit.{Permit}
-use Rattle.permit.specs.declared.Permit.the-variants.{Write, Refused}
 use Rattle.permit.specs.Refusals.{readOnly, boundsOf, allowed, initRunning, permitted}
-use Rattle.permit.specs.Permit.{permitOf}
-
--- the outcome's number: 0 is done
-abbrev number : Permit → ℕ
-number (Write change) = 0
-number (Refused refusal) = refusalNumber refusal
+use Rattle.permit.specs.Permit.{permitNumber, permitOf}
 
 abbrev outcome : Plant → ℕ → ℕ → ℕ
-outcome p row w = number (permitOf p row w)
+outcome p row w = permitNumber (permitOf p row w)
 
 abbrev pub cases : List (ℕ × ℕ)
 cases =
