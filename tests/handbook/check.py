@@ -100,6 +100,13 @@ def edits():
     return ["%s/%s" % (path.split(os.sep)[-3], os.path.basename(path)[:-5]) for path in paths]
 
 
+def edited(crate, edit):
+    """What an edit is of: a program, a definition, or both."""
+    path = "crates/%s/must-fail/%s.edit" % (crate, edit)
+    folders = re.findall(r"^file: (\w+)/", text(path), re.M) if os.path.exists(os.path.join(TOP, path)) else []
+    return sorted({{"src": "program", "specs": "definition"}.get(folder, "file in %s" % folder) for folder in folders})
+
+
 def routines(crate):
     """The contract of each public routine of a library, from its signature on, by the routine's name: `Type::name` for one of an `impl`."""
     found = {}
@@ -149,7 +156,8 @@ def promises():
     """Every public routine has its line in docs/PROMISES.md, every must-fail edit its own, and there are no other."""
     rows, wrong = cells("docs/PROMISES.md", "The edits"), edits()
     faults = differs("The edits", ["%s/%s" % (row[0], row[1].strip("`")) for row in rows], wrong)
-    faults += ["The edits: %s shows nothing, or is refused nowhere" % row[1] for row in rows if len(row) != 4 or not all(row)]
+    faults += ["The edits: %s shows nothing, or is refused nowhere" % row[1] for row in rows if len(row) != 5 or not all(row)]
+    faults += ["The edits: %s is of a %s" % (row[1], kind) for row in rows for kind in edited(row[0], row[1].strip("`")) if kind != row[2]]
     libraries = [crate for crate in crates() if os.path.exists(os.path.join(TOP, "crates", crate, "src", "lib.rt"))]
     for crate in libraries:
         faults += ["%s: %s" % (crate, fault) for fault in promises_of(crate, wrong)]
