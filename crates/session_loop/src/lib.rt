@@ -1,7 +1,7 @@
 // The session of document 01's case 9, over any protocol: bytes from a port, a line on standard output for each message taken.
 //
 // No contract can say what is read and written. All between the two is promised: by `serve` the card after a call, its reply and the text of its line, and by
-// `serve_all` the card after the calls on what one read hands over.
+// `serve_all` the card that it hands on: the one at which the calls on what one read hands over end, the last byte used.
 mod call;
 mod line;
 
@@ -13,7 +13,7 @@ use libc::STDOUT_FILENO;
 use port::Numbers;
 ghost use mathlib.Core.Path.{_≡_};
 ghost use Rattle.card.specs.State.{cardOf};
-ghost use Rattle.session_loop.specs.Handed.{Handed};
+ghost use Rattle.session_loop.specs.Handed.{EndsAt, Handed};
 
 // Where replies go, beside the lines: to nobody, or to a descriptor.
 pub enum Replies {
@@ -55,7 +55,8 @@ fn serve_all(
     scrap: &[u8],
     replies: Replies,
 ) -> usize
-    ensures { λ r. ⌜ Handed (cardOf (now (held .entry)) len (now (port .entry)) (now (plant .entry))) (now (scrap .entry)) (cardOf (now (held .exit)) r (now (port .exit)) (now (plant .exit))) ⌝ }
+    ensures calls { λ r. ⌜ EndsAt (cardOf (now (held .entry)) len (now (port .entry)) (now (plant .entry))) (now (scrap .entry)) (cardOf (now (held .exit)) r (now (port .exit)) (now (plant .exit))) ⌝ }
+    ensures whole { λ r. ⌜ Handed (cardOf (now (held .entry)) len (now (port .entry)) (now (plant .entry))) (now (scrap .entry)) (cardOf (now (held .exit)) r (now (port .exit)) (now (plant .exit))) ⌝ }
 {
     let mut reply = [0u8; 64];
     let mut text = [0u8; 64];

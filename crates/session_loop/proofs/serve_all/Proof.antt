@@ -26,14 +26,14 @@ add-at c =
     omega (
       arith,
       c .before .before .before .before .before .before .before .before .before .before .before .before .before .before .before .good .1 .1 .1 .1 .0,
-      used-within (cardOf (l .held) (l .pending) (l .port) (l .plant)) (c .before .before .before .before .before .before .before .before .before .before .before .before .before .before .before .args .scrap .now) (l .at) _ _ _ (s .result) (c .before .before .before .before .before .before .before .before .before .before .before .before .loop-test .taken) (s .ensures .0),
+      used-within (cardOf (l .held) (l .pending) (l .port) (l .plant)) (c .before .before .before .before .before .before .before .before .before .before .before .before .before .before .before .args .scrap .now) (l .at) _ _ _ (s .result) (omega (arith, c .before .before .before .before .before .before .before .before .before .before .before .before .loop-test .taken)) (s .ensures .0),
     )
 
 loop-again : tie.Need-loop-again Inv-loop μ-loop
 loop-again c =
     let l = c .before .before .before .before .before .before .before .before .before .before .before .before .before .loop in
     let s = c .before .before .before .before .before .serve in
-    handed-on (cardOf (l .held) (l .pending) (l .port) (l .plant)) (c .before .before .before .before .before .before .before .before .before .before .before .before .before .before .before .args .scrap .now) (l .at) _ _ _ (s .result) (c .before .before .before .before .before .before .before .before .before .before .before .before .loop-test .taken) (s .ensures .0) _ (l .inv .1)
+    handed-on (cardOf (l .held) (l .pending) (l .port) (l .plant)) (c .before .before .before .before .before .before .before .before .before .before .before .before .before .before .before .args .scrap .now) (l .at) _ _ _ (s .result) (omega (arith, c .before .before .before .before .before .before .before .before .before .before .before .before .loop-test .taken)) (s .ensures .0) _ (l .inv .1)
 
 returns : tie.Need-returns Inv-loop μ-loop
 returns c =
