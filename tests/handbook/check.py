@@ -108,7 +108,7 @@ def edited(crate, edit):
 
 
 def routines(crate):
-    """The contract of each public routine of a library, from its signature on, by the routine's name: `Type::name` for one of an `impl`."""
+    """The contract of each public routine of a crate, from its signature on, by the routine's name: `Type::name` for one of an `impl`."""
     found = {}
     for path in sorted(glob.glob(os.path.join(TOP, "crates", crate, "src", "**", "*.rt"), recursive=True)):
         source, kind = text(path), ""
@@ -153,16 +153,15 @@ def promises_of(crate, wrong):
 
 
 def promises():
-    """Every public routine has its line in docs/PROMISES.md, every must-fail edit its own, and there are no other."""
+    """Every public routine, of a program too, has its line in docs/PROMISES.md, every must-fail edit its own, and there are no other."""
     rows, wrong = cells("docs/PROMISES.md", "The edits"), edits()
     faults = differs("The edits", ["%s/%s" % (row[0], row[1].strip("`")) for row in rows], wrong)
     faults += ["The edits: %s shows nothing, or is refused nowhere" % row[1] for row in rows if len(row) != 5 or not all(row)]
     faults += ["The edits: %s is of a %s" % (row[1], kind) for row in rows for kind in edited(row[0], row[1].strip("`")) if kind != row[2]]
-    libraries = [crate for crate in crates() if os.path.exists(os.path.join(TOP, "crates", crate, "src", "lib.rt"))]
-    for crate in libraries:
+    for crate in crates():
         faults += ["%s: %s" % (crate, fault) for fault in promises_of(crate, wrong)]
-    others = [name for name in sections("docs/PROMISES.md") if name not in libraries + ["The edits"]]
-    faults += ["%s: no library has these routines" % name for name in others if cells("docs/PROMISES.md", name)]
+    others = [name for name in sections("docs/PROMISES.md") if name not in crates() + ["The edits"]]
+    faults += ["%s: no crate has these routines" % name for name in others if cells("docs/PROMISES.md", name)]
     return ["docs/PROMISES.md, %s" % fault for fault in faults]
 
 

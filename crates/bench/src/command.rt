@@ -6,7 +6,7 @@ use card::Protocol;
 use protocols::Named;
 
 // A command. Where it has a HEX, its last number tells how many bytes that spells; the first of `Call` is the buffer's size.
-pub enum Command {
+pub(crate) enum Command {
     Start(Protocol),
     Restart,
     Bytes(usize),
@@ -19,7 +19,7 @@ pub enum Command {
 }
 
 // What the host tells the card. A measured number is a word, a negative one in two's complement.
-pub enum Event {
+pub(crate) enum Event {
     Tick(u32),
     Raise(u32),
     End(u32),
@@ -167,7 +167,7 @@ fn with_two(name: &[u8], first: &[u8], word: &[u8], bytes: &mut [u8]) -> Command
 }
 
 // The command that the line is. The bytes of its HEX stand at the start of `bytes`.
-pub fn parse(line: &[u8], bytes: &mut [u8]) -> Command {
+pub(crate) fn parse(line: &[u8], bytes: &mut [u8]) -> Command {
     match bench_words::count(line) {
         1 => alone(line),
         2 => with_one(

@@ -9,7 +9,7 @@ use card::Protocol;
 use drive::Measured;
 
 // The answer to what is no command.
-pub fn unknown() {
+pub(crate) fn unknown() {
     let mut out = [0u8; 2];
     let n = bench_lines::put(&mut out, 0, b'?');
     bench_lines::end(&mut out, n);
@@ -184,7 +184,7 @@ fn perform(card: Card, command: Command, buffer: &[u8]) -> Card {
 }
 
 // Does the command of a line, and prints its answer.
-pub fn answer(card: Card, line: &[u8]) -> Card {
+pub(crate) fn answer(card: Card, line: &[u8]) -> Card {
     let mut buffer = [0u8; 1350];
     if 3 < bench_words::count(line) {
         bench_master::ask(line);

@@ -5,17 +5,17 @@ use libc::STDIN_FILENO;
 ghost use Prim.Native.Nat.{_≤_};
 
 // The characters of a line, at most 2700, and those of one read.
-pub type Text = [u8; 2700];
+pub(crate) type Text = [u8; 2700];
 
-pub type Scrap = [u8; 4096];
+pub(crate) type Scrap = [u8; 4096];
 
 // The characters of the scrap from `at` up to `end` wait. The text holds `len` characters of a line; a length above 2700 says that it is too
 // long. `whole` says that the line is at its end, `open` that there may be more to read.
-pub struct Reader {
+pub(crate) struct Reader {
     at: usize,
     end: usize,
-    pub len: usize,
-    pub whole: bool,
+    pub(crate) len: usize,
+    pub(crate) whole: bool,
     open: bool,
 }
 
@@ -38,7 +38,7 @@ fn within(place: usize) -> usize
 
 impl Reader {
     // Nothing is read yet.
-    pub fn new() -> Self {
+    pub(crate) fn new() -> Self {
         Reader {
             at: 0,
             end: 0,
@@ -101,7 +101,7 @@ impl Reader {
     }
 
     // The next line: `whole`, the first `len` characters of `text`; or not whole, where there is none.
-    pub fn next(self, scrap: &mut Scrap, text: &mut Text) -> Self {
+    pub(crate) fn next(self, scrap: &mut Scrap, text: &mut Text) -> Self {
         let mut reader = self;
         reader.len = 0;
         let mut turns = u64::MAX;

@@ -12,7 +12,7 @@ use port::SUM;
 use table::names::*;
 
 // `state`: prints the line.
-pub fn print(card: Card) {
+pub(crate) fn print(card: Card) {
     let line = card.port;
     let pending = line.pending;
     let held = pending.bytes;
