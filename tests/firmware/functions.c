@@ -1,0 +1,412 @@
+/* Every function of linecard.h, the library's own and the wrappers, held against document 01. What does not hold is a line: where, what was seen, and
+ * what should be. The memory is the host's: its fields are read and put through the header's structs. */
+#include <stdio.h>
+#include <string.h>
+
+#include "linecard.h"
+
+static const char *part = "";   /* what is looked at */
+static unsigned long held, wrong;
+
+static void same(const char *what, unsigned long long saw, unsigned long long right)
+{
+    held += saw == right;
+    wrong += saw != right;
+    if (saw != right)
+        printf("functions: %s: %s: saw %llu, should be %llu\n", part, what, saw, right);
+}
+
+#define SAME(saw, right) same(#saw, (unsigned long long)(saw), (unsigned long long)(right))
+
+static void same_at(const char *what, size_t at, unsigned long long saw, unsigned long long right)
+{
+    char place[80];
+    snprintf(place, sizeof place, "%s[%zu]", what, at);
+    same(place, saw, right);
+}
+
+static void same_bytes(const char *what, const uint8_t *saw, const uint8_t *right, size_t n)
+{
+    for (size_t i = 0; i < n; i++)
+        same_at(what, i, saw[i], right[i]);
+}
+
+/* All of a card but its bytes pending. */
+static void same_words(const card *saw, const card *right)
+{
+    for (size_t i = 0; i < CARD_NUMBERS; i++)
+        same_at("port.numbers", i, saw->port.numbers[i], right->port.numbers[i]);
+    for (size_t i = 0; i < CARD_WORDS; i++)
+        same_at("plant", i, saw->plant[i], right->plant[i]);
+}
+
+static void same_card(const card *saw, const card *right)
+{
+    SAME(saw->port.pending.len, right->port.pending.len);
+    same_bytes("port.pending.bytes", saw->port.pending.bytes, right->port.pending.bytes, sizeof right->port.pending.bytes);
+    same_words(saw, right);
+}
+
+/* A fresh card over memory that held other bytes. */
+static card fresh(uint32_t protocol)
+{
+    card c;
+    memset(&c, 0x5A, sizeof c);
+    card_start(&c, protocol);
+    return c;
+}
+
+/* A card that runs at MODE 3, with something in every part of it. */
+static card driving(void)
+{
+    card c = fresh(CARD_ASCII);
+    c.plant[CARD_ACCEL] = 147;
+    c.plant[CARD_MB_ADR] = 17;
+    c.plant[CARD_SIO_TOT] = 10;
+    c.plant[CARD_MODE] = 3;
+    c.plant[CARD_SCMD] = 129;
+    c.plant[CARD_DIN1] = 1;
+    c.plant[CARD_FRQ_ACT] = 7;
+    c.plant[CARD_I_RMS] = 8;
+    c.plant[CARD_OP_TIME] = 9;
+    c.port.numbers[CARD_SUM] = 4;
+    c.port.pending.bytes[0] = ':';
+    c.port.pending.len = 1;
+    return c;
+}
+
+/* ---- start and restart */
+/* The column Start; "At start DIN1 is inactive and no cause stands". */
+static void start(void)
+{
+    static const uint32_t column[] = { 150, 400, 50, 1500, 80, 100, 1000, 50, 50, 0, 0, 500, 0, 1, 128, 0, 1, 0, 1, 1, 1, 0 };
+    static const uint32_t protocols[][2] = { { CARD_NFO, CARD_NFO }, { CARD_RTU, CARD_RTU }, { CARD_ASCII, CARD_ASCII }, { 7, CARD_NFO } };
+
+    part = "start";
+    for (size_t k = 0; k < sizeof protocols / sizeof protocols[0]; k++) {
+        card c = fresh(protocols[k][0]), d;
+        SAME(c.port.pending.len, 0);
+        SAME(c.port.numbers[CARD_PROTOCOL], protocols[k][1]);
+        SAME(c.port.numbers[CARD_SUM], 0);
+        SAME(c.port.numbers[CARD_SIOERR], 0);
+        for (size_t i = 0; i < sizeof column / sizeof column[0]; i++)
+            same_at("plant", i, c.plant[i], column[i]);
+        SAME(c.plant[CARD_MODE], 1);
+        SAME(c.plant[CARD_SCMD], 0);
+        SAME(c.plant[CARD_FRQ_ACT], 0);
+        SAME(c.plant[CARD_I_RMS], 0);
+        SAME(c.plant[CARD_OP_TIME], 0);
+        SAME(c.plant[CARD_DIN1], 0);
+        SAME(c.plant[CARD_CAUSES], 0);
+        SAME(c.plant[CARD_FLAGS], 0);
+        SAME(c.plant[CARD_STATION], 1);
+        memset(&d, 0xA5, sizeof d);
+        card_start_in(d.port.pending.bytes, &d.port.pending.len, d.port.numbers, d.plant, protocols[k][0]);
+        same_card(&d, &c);
+    }
+}
+
+/* "Restart keeps rows 301 to 322, DIN1, causes and measured numbers; flags become the standing causes; MODE 1, SCMD, SioErr and sum 0, nothing pending."
+ * Our Modbus address "is what MbAdr held at the last start or restart". */
+static void restart(void)
+{
+    card c = driving(), d, right;
+
+    part = "restart";
+    c.plant[CARD_CAUSES] = 1u << 3;
+    c.plant[CARD_FLAGS] = 1u << 3 | 1u << 5 | 1u << 14;
+    c.port.numbers[CARD_SIOERR] = 3;
+    right = d = c;
+    right.plant[CARD_FLAGS] = 1u << 3;
+    right.plant[CARD_MODE] = 1;
+    right.plant[CARD_SCMD] = 0;
+    right.plant[CARD_STATION] = 17;
+    right.port.numbers[CARD_SUM] = 0;
+    right.port.numbers[CARD_SIOERR] = 0;
+    right.port.pending.len = 0;
+    card_restart(&c);
+    same_card(&c, &right);
+    card_restart_in(&d.port.pending.len, d.port.numbers, d.plant);
+    same_card(&d, &right);
+}
+
+/* ---- host events */
+/* "Faults 1 to 13 and 16 to 23 each have a cause and a flag. The host raises one (both set) or ends a cause (the flag stays)"; "SCMD becomes 0 when .. a
+ * fault flag is raised". Any other number is 12, and nothing changes. */
+static void fault(uint32_t n)
+{
+    int known = (1 <= n && n <= 13) || (16 <= n && n <= 23);
+    uint32_t outcome = known ? CARD_DONE : CARD_NO_SUCH_EVENT, bit = known ? 1u << n : 0;
+    card c = driving(), d = c, right = c;
+
+    part = "raise fault";
+    right.plant[CARD_CAUSES] |= bit;
+    right.plant[CARD_FLAGS] |= bit;
+    if (known)
+        right.plant[CARD_SCMD] = 0;
+    SAME(card_raise_fault(&c, n), outcome);
+    same_card(&c, &right);
+    SAME(card_raise_fault_in(d.plant, n), outcome);
+    same_card(&d, &right);
+
+    part = "end cause";
+    right.plant[CARD_CAUSES] &= ~bit;
+    SAME(card_end_cause(&c, n), outcome);
+    same_card(&c, &right);
+    SAME(card_end_cause_in(d.plant, n), outcome);
+    same_card(&d, &right);
+}
+
+/* "SCMD becomes 0 when DIN1 goes inactive". */
+static void din1(void)
+{
+    part = "DIN1";
+    for (uint32_t active = 0; active <= 2; active++) {
+        card c = driving(), d = c, right = c;
+        if (active == 0) {
+            right.plant[CARD_DIN1] = 0;
+            right.plant[CARD_SCMD] = 0;
+        }
+        SAME(card_din1(&c, active), CARD_DONE);
+        SAME(c.plant[CARD_DIN1] != 0, active != 0);
+        right.plant[CARD_DIN1] = c.plant[CARD_DIN1];
+        same_card(&c, &right);
+        SAME(card_din1_in(d.plant, active), CARD_DONE);
+        same_card(&d, &right);
+    }
+}
+
+/* "The host sets FrqAct, I-rms and OpTime freely in their widths." */
+static void measured(void)
+{
+    card c = driving(), d = c, right = c;
+
+    part = "FrqAct";
+    SAME(card_frq_act(&c, (uint32_t)-5), CARD_DONE);
+    SAME((int16_t)c.plant[CARD_FRQ_ACT], (int16_t)-5);
+    right.plant[CARD_FRQ_ACT] = c.plant[CARD_FRQ_ACT];
+    same_card(&c, &right);
+    SAME(card_frq_act_in(d.plant, (uint32_t)-5), CARD_DONE);
+    same_card(&d, &right);
+
+    part = "I-rms";
+    right.plant[CARD_I_RMS] = (uint32_t)-100000;
+    SAME(card_i_rms(&c, (uint32_t)-100000), CARD_DONE);
+    same_card(&c, &right);
+    SAME(card_i_rms_in(d.plant, (uint32_t)-100000), CARD_DONE);
+    same_card(&d, &right);
+
+    part = "OpTime";
+    right.plant[CARD_OP_TIME] = 4000000000u;
+    SAME(card_op_time(&c, 4000000000u), CARD_DONE);
+    same_card(&c, &right);
+    SAME(card_op_time_in(d.plant, 4000000000u), CARD_DONE);
+    same_card(&d, &right);
+}
+
+/* "bit 1 parity fault told by the host. Either one at MODE 3 also raises flag 14." */
+static void parity_fault(void)
+{
+    part = "parity fault";
+    for (uint32_t mode = 1; mode <= 3; mode++) {
+        card c = driving(), d, right;
+        c.plant[CARD_MODE] = mode;
+        right = d = c;
+        right.port.numbers[CARD_SIOERR] = 2;
+        if (mode == 3) {
+            right.plant[CARD_FLAGS] = 1u << 14;
+            right.plant[CARD_SCMD] = 0;
+        }
+        SAME(card_parity_fault(&c), CARD_DONE);
+        same_card(&c, &right);
+        SAME(card_parity_fault_in(d.port.numbers, d.plant), CARD_DONE);
+        same_card(&d, &right);
+    }
+}
+
+static void ticks(card *c, card *d, uint32_t tenths, uint32_t outcome, const card *right)
+{
+    SAME(card_tick(c, tenths), outcome);
+    same_card(c, right);
+    SAME(card_tick_in(d->port.numbers, d->plant, tenths), outcome);
+    same_card(d, right);
+}
+
+/* "The host ticks 1 to 250 tenths. If SioTot is not 0 and the sum .. goes above it, a time-out happens and the sum restarts at 0. While SioTot is 0 the
+ * sum is 0." */
+static void tick(void)
+{
+    card c = driving(), d = c, right = c;
+
+    part = "tick";
+    ticks(&c, &d, 0, CARD_NO_SUCH_EVENT, &right);
+    ticks(&c, &d, 251, CARD_NO_SUCH_EVENT, &right);
+    ticks(&c, &d, UINT32_MAX, CARD_NO_SUCH_EVENT, &right);
+    part = "tick up to SioTot";
+    right.port.numbers[CARD_SUM] = 10;
+    ticks(&c, &d, 6, CARD_DONE, &right);
+    part = "tick above SioTot at MODE 3";
+    right.port.numbers[CARD_SUM] = 0;
+    right.port.numbers[CARD_SIOERR] = 1;
+    right.plant[CARD_FLAGS] = 1u << 14;
+    right.plant[CARD_SCMD] = 0;
+    ticks(&c, &d, 1, CARD_DONE, &right);
+    part = "tick above SioTot at MODE 1";
+    c = driving();
+    c.plant[CARD_MODE] = 1;
+    right = d = c;
+    right.port.numbers[CARD_SUM] = 0;
+    right.port.numbers[CARD_SIOERR] = 1;
+    ticks(&c, &d, 250, CARD_DONE, &right);
+    part = "tick while SioTot is 0";
+    c = driving();
+    c.plant[CARD_SIO_TOT] = 0;
+    right = d = c;
+    right.port.numbers[CARD_SUM] = 0;
+    ticks(&c, &d, 250, CARD_DONE, &right);
+}
+
+/* ---- bytes from the line */
+/* The functions for a protocol: those by the port's number, and its own. */
+enum way { ALL, ALL_IN, OWN, OWN_IN, WAYS };
+
+static uint32_t receive(enum way way, uint32_t protocol, card *c, const uint8_t *bytes, size_t n, uint8_t *reply, size_t room, size_t told[2])
+{
+    struct card_pending *p = &c->port.pending;
+    told[0] = told[1] = SIZE_MAX;
+    if (way == ALL)
+        return card_receive(c, bytes, n, reply, room, told);
+    if (way == ALL_IN)
+        return card_receive_in(p->bytes, &p->len, c->port.numbers, c->plant, bytes, n, reply, room, told);
+    if (protocol == CARD_RTU)
+        return way == OWN ? card_receive_rtu(c, bytes, n, reply, room, told)
+                          : card_receive_rtu_in(p->bytes, &p->len, c->port.numbers, c->plant, bytes, n, reply, room, told);
+    if (protocol == CARD_ASCII)
+        return way == OWN ? card_receive_ascii(c, bytes, n, reply, room, told)
+                          : card_receive_ascii_in(p->bytes, &p->len, c->port.numbers, c->plant, bytes, n, reply, room, told);
+    return way == OWN ? card_receive_nfo(c, bytes, n, reply, room, told)
+                      : card_receive_nfo_in(p->bytes, &p->len, c->port.numbers, c->plant, bytes, n, reply, room, told);
+}
+
+/* The port's number for a way: a protocol's own function does not look at it. */
+static card port_for(enum way way, uint32_t protocol) { return fresh(way == ALL || way == ALL_IN ? protocol : (protocol + 1) % 3); }
+
+/* One call, and all that it leaves: the outcome, the bytes used, the reply and the bytes past it, the words. */
+static void call(enum way way, uint32_t protocol, card *c, const uint8_t *bytes, size_t n, size_t room, uint32_t outcome, size_t used, const char *reply, size_t len, const card *right)
+{
+    uint8_t buffer[32], after[32];
+    size_t told[2];
+
+    memset(buffer, 0xA5, sizeof buffer);
+    memset(after, 0xA5, sizeof after);
+    memcpy(after, reply, len);
+    SAME(receive(way, protocol, c, bytes, n, buffer, room, told), outcome);
+    SAME(told[0], used);
+    SAME(told[1], len);
+    same_bytes("reply", buffer, after, sizeof after);
+    same_words(c, right);
+}
+
+/* A message to a fresh card, by each function. "A reply buffer under 19 bytes is 10, with no byte used"; "A stream call uses bytes up to the end of the first
+ * message taken": of two, those of the first. The message changes one word, or none where `word` is CARD_WORDS. */
+static void message(const char *what, uint32_t protocol, const char *bytes, size_t n, uint32_t outcome, const char *reply, size_t len, size_t word, uint32_t value)
+{
+    uint8_t twice[64];
+    size_t given = protocol == CARD_RTU ? n : 2 * n;
+
+    part = what;
+    memcpy(twice, bytes, n);
+    memcpy(twice + n, bytes, n);
+    for (enum way way = 0; way < WAYS; way++) {
+        card c = port_for(way, protocol), before = c, right = c;
+        call(way, protocol, &c, twice, given, CARD_REPLY_LEAST - 1, CARD_SHORT_BUFFER, 0, "", 0, &before);
+        same_card(&c, &before);
+        if (word < CARD_WORDS)
+            right.plant[word] = value;
+        call(way, protocol, &c, twice, given, CARD_REPLY_LEAST, outcome, n, reply, len, &right);
+        SAME(c.port.pending.len, 0);
+    }
+}
+
+/* A message of a stream in two scraps: the first is pending, the second ends it. No bytes at all are 15. */
+static void scraps(const char *what, uint32_t protocol, const char *bytes, size_t n, size_t cut, const char *reply, size_t len)
+{
+    const uint8_t *b = (const uint8_t *)bytes;
+
+    part = what;
+    for (enum way way = 0; way < WAYS; way++) {
+        card c = port_for(way, protocol), right = c;
+        call(way, protocol, &c, b, cut, 32, CARD_NOTHING_TAKEN, cut, "", 0, &right);
+        SAME(c.port.pending.len, cut);
+        same_bytes("port.pending.bytes", c.port.pending.bytes, b, cut);
+        call(way, protocol, &c, b, 0, 32, CARD_NOTHING_TAKEN, 0, "", 0, &right);
+        SAME(c.port.pending.len, cut);
+        call(way, protocol, &c, b + cut, n - cut, 32, CARD_DONE, n - cut, reply, len, &right);
+        SAME(c.port.pending.len, 0);
+    }
+}
+
+#define TEXT(s) s, sizeof s - 1
+
+static void bytes_from_the_line(void)
+{
+    message("case 1, NFO", CARD_NFO, TEXT("\x04!\x02" "E0019=0064\x03" "q"), CARD_NO_ROW, TEXT("!\x15"), CARD_WORDS, 0);
+    message("case 2, NFO", CARD_NFO, TEXT("\x04!E001D\x05"), CARD_DONE, TEXT("!\x02" "E001D=0032\x03\x0F"), CARD_WORDS, 0);
+    message("case 3, NFO", CARD_NFO, TEXT("\x04!\x02" "E001D=0064\x03\x0C"), CARD_DONE, TEXT("!\x06"), CARD_ACCEL, 100);
+    message("NFO, another address", CARD_NFO, TEXT("\x04\"E001D\x05"), CARD_NOT_OURS, TEXT(""), CARD_WORDS, 0);
+    scraps("case 2, NFO, in scraps", CARD_NFO, TEXT("\x04!E001D\x05"), 3, TEXT("!\x02" "E001D=0032\x03\x0F"));
+
+    message("RTU, a read", CARD_RTU, TEXT("\x01\x03\x02\x94\x00\x01\xC4\x5E"), CARD_DONE, TEXT("\x01\x03\x02\x00\x01\x79\x84"), CARD_WORDS, 0);
+    message("RTU, a write", CARD_RTU, TEXT("\x01\x06\x06\xDC\x00\x64\x49\x53"), CARD_DONE, TEXT("\x01\x06\x06\xDC\x00\x64\x49\x53"), CARD_ACCEL, 100);
+    message("RTU, a wrong span", CARD_RTU, TEXT("\x01\x03\x07\x0C\x00\x01\x45\x7D"), CARD_NO_ROW, TEXT("\x01\x83\x02\xC0\xF1"), CARD_WORDS, 0);
+    message("RTU, a wrong CRC", CARD_RTU, TEXT("\x01\x06\x06\xDC\x00\x64\x49\x54"), CARD_BAD_FRAME, TEXT(""), CARD_WORDS, 0);
+
+    message("case 7, ASCII, a read", CARD_ASCII, TEXT(":01030294000165\r\n"), CARD_DONE, TEXT(":0103020001F9\r\n"), CARD_WORDS, 0);
+    message("case 7, ASCII, a wrong span", CARD_ASCII, TEXT(":0103070C0001E8\r\n"), CARD_NO_ROW, TEXT(":0183027A\r\n"), CARD_WORDS, 0);
+    message("case 7, ASCII, a broadcast read", CARD_ASCII, TEXT(":000302A4000156\r\n"), CARD_NOT_OURS, TEXT(""), CARD_WORDS, 0);
+    message("ASCII, a write", CARD_ASCII, TEXT(":010606DC0064B3\r\n"), CARD_DONE, TEXT(":010606DC0064B3\r\n"), CARD_ACCEL, 100);
+    scraps("case 7, ASCII, in scraps", CARD_ASCII, TEXT(":01030294000165\r\n"), 6, TEXT(":0103020001F9\r\n"));
+}
+
+/* "The register data of a well-made 06 or 16 (CRC, length and count right, any address) is handed back as a part of the caller's frame; for other bytes, an
+ * empty part." */
+static void data_at(const char *frame, size_t n, size_t from, size_t len)
+{
+    size_t place[2] = { SIZE_MAX, SIZE_MAX };
+    card_register_data((const uint8_t *)frame, n, place);
+    SAME(place[0], from);
+    SAME(place[1], len);
+}
+
+static void register_data(void)
+{
+    part = "register data of a 06";
+    data_at(TEXT("\x01\x06\x06\xDC\x00\x64\x49\x53"), 4, 2);
+    part = "register data of a 06 to another address";
+    data_at(TEXT("\x02\x06\x06\xDC\x00\x64\x49\x60"), 4, 2);
+    part = "register data of a 16";
+    data_at(TEXT("\x01\x10\x07\x0C\x00\x02\x04\x00\x05\x00\x00\xC5\xCB"), 7, 4);
+    part = "register data of a 03";
+    data_at(TEXT("\x01\x03\x02\x94\x00\x01\xC4\x5E"), 0, 0);
+    part = "register data where the CRC is wrong";
+    data_at(TEXT("\x01\x06\x06\xDC\x00\x64\x49\x54"), 0, 0);
+    part = "register data of no bytes";
+    data_at(TEXT(""), 0, 0);
+}
+
+int main(void)
+{
+    start();
+    restart();
+    for (uint32_t n = 0; n <= 33; n++)
+        fault(n);
+    fault(UINT32_MAX);
+    din1();
+    measured();
+    parity_fault();
+    tick();
+    bytes_from_the_line();
+    register_data();
+    printf("functions: %lu numbers and bytes are as document 01 says, %lu are not\n", held, wrong);
+    return wrong != 0;
+}
