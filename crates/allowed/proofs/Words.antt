@@ -8,14 +8,13 @@ use borrow.Author.Tests.{lt-ltb, le-ltb, le-leb, lt-leb, eq-eqb, ne-eqb, eqb-tru
 use lib.Dec.{eqb, leb, ltb}
 use lib.IntN.{ℤ, pos, negsuc, negℤ}
 use lib.Signed.{leZ, ltZ}
-use Rattle.base.specs.Choice.{pick, both, either}
+use Rattle.base.specs.Choice.{pick, both}
 use Rattle.base.proofs.Tests.{same-test, both-false, both-out}
 use Rattle.allowed.specs.Words.{narrow, rankOf, listed}
 use Rattle.allowed.specs.Allowed.{twos, integerOf, eqZ, member, within, belowLimt, aboveMagn, about, atMode, setpointAllows, allows, allowedAt}
 use Rattle.base.proofs.Arms.{NoneOf, upFrom, past}
 use Rattle.table.specs.Table.{rows, lineAt}
-use Rattle.table.specs.declared.lines.Allowed.{Allowed}
-use Rattle.table.specs.declared.lines.Allowed.the-variants.{Between, OneOf, BelowLimt, AboveMagn, ByMode, Nothing}
+use Rattle.table.specs.declared.lines.Allowed.the-variants.{Between, OneOf, BelowLimt, AboveMagn, ByMode}
 use Rattle.table.proofs.Columns.{from-Inv-St}
 use Rattle.allowed.specs.declared.Bounds.{Bounds}
 

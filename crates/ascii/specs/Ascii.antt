@@ -1,5 +1,5 @@
 -- Modbus ASCII: what a well-formed message is, and what could still become one. Assumes nothing.
-use mathlib.Core.Bool.{Bool, true, false}
+use mathlib.Core.Bool.{Bool, true}
 use mathlib.Core.List.{List, [], _∷_, _++_}
 use Prim.Native.Nat.{ℕ, _-_, _/_}
 use lib.Dec.{leb, eqb}

@@ -1,7 +1,7 @@
 -- Digits that go on freely, one after the other. Assumes nothing.
 use mathlib.Core.Path.{_≡_, refl, sym, ap, subst, _∙_}
 use mathlib.Core.Bool.{Bool, true, false, not}
-use mathlib.Core.List.{List, _++_}
+use mathlib.Core.List.{List}
 use Prim.Native.Nat.{ℕ, _+_, _-_, _%_, _≤_, _<_, min}
 use native.Mathlib.Nat.{add-zero}
 use native.Mathlib.Omega.{arith}
@@ -15,7 +15,7 @@ use Rattle.hex.proofs.RoundTrip.{hex-other, cr-not-hex}
 use Rattle.pending.specs.declared.Pending.{Pending}
 use Rattle.pending.specs.Held.{pushed}
 use Rattle.pending.specs.Scanning.{Scan, scanFrom, scanOn}
-use Rattle.pending.proofs.Scans.{scan-turn, scan-append}
+use Rattle.pending.proofs.Scans.{scan-append}
 use Rattle.ascii_scan.specs.Scan.{ended, digitFits, goesOn, ends, fed, feeding}
 use Rattle.ascii_scan.proofs.Turns.{open-ends, keeps-next, next-same}
 

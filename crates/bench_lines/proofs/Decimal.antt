@@ -9,7 +9,7 @@ use borrow.Author.Tests.{leb-true, leb-false, lt-ltb, le-ltb}
 use mir.Syntax.{w64}
 use mir.Val.{Fits}
 use lib.Dec.{leb}
-use lib.ListN.{length, take}
+use lib.ListN.{take}
 use Rattle.io.specs.Digits.{glyph, digits, Fewest}
 use Rattle.bench_lines.specs.Answer.{digitsUpTo, decimalOf}
 use Rattle.bench_lines.proofs.Laws.{Put}

@@ -1,8 +1,8 @@
 -- What a word spells, by the tests that the code makes. Assumes nothing.
-use mathlib.Core.Path.{_≡_, refl, sym, ap, _∙_}
+use mathlib.Core.Path.{_≡_, sym, ap, _∙_}
 use mathlib.Core.Bool.{Bool, true, false}
 use mathlib.Core.List.{List, [], _∷_}
-use Prim.Native.Nat.{ℕ, _+_, _-_, _*_, _≤_, _<_}
+use Prim.Native.Nat.{ℕ, _-_, _*_, _≤_, _<_}
 use native.Mathlib.Omega.{arith}
 use borrow.Author.Tests.{eq-eqb, ne-eqb, lt-ltb, le-ltb}
 use lib.ListN.{length, take, drop}
@@ -11,7 +11,6 @@ use Rattle.base.specs.Bytes.{same}
 use Rattle.base.proofs.Tests.{same-test}
 use Rattle.base.proofs.Lists.{same-out, same-in}
 use Rattle.hex.specs.Hex.{bytesOf}
-use Rattle.bench_words.specs.declared.spelling.Spelling.{Spelling}
 use Rattle.bench_words.specs.declared.spelling.Spelling.the-variants.{Bytes, NotHex}
 use Rattle.bench_words.specs.Spelling.{bytesSpelt, spellingOf}
 

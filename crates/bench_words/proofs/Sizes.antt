@@ -6,17 +6,16 @@ use Prim.Native.Nat.{ℕ, suc, _+_, _-_, _*_, _%_, _≤_, _<_, min}
 use native.Mathlib.Numerals.{add-one}
 use native.Mathlib.Omega.{arith}
 use borrow.Author.Tests.{eq-eqb, ne-eqb, le-leb, lt-leb, leb-true, leb-false}
-use lib.Dec.{eqb, leb}
+use lib.Dec.{leb}
 use lib.ListN.{length, take, drop, getD, drop-of-length-le}
 use lib.Seq.{drop-cons, take-all}
-use Rattle.base.specs.Choice.{pick, both}
+use Rattle.base.specs.Choice.{pick}
 use Rattle.base.proofs.Tests.{both-false}
 use Rattle.hex.specs.Hex.{isNumeral}
 use Rattle.bench_words.specs.declared.numbers.Size.{Size}
 use Rattle.bench_words.specs.declared.numbers.Size.the-variants.{Is, NoDigits}
 use Rattle.bench_words.specs.declared.numbers.Number.{Number}
 use Rattle.bench_words.specs.declared.numbers.Number.the-variants.{Word, Outside}
-use Rattle.bench_words.specs.declared.numbers.Short.{Short}
 use Rattle.bench_words.specs.declared.numbers.Short.the-variants as short
 use Rattle.bench_words.specs.Numbers.{allNumerals, sizeFrom, cappedFrom, sizeOf, plain, negative, numberOf, shortOf}
 

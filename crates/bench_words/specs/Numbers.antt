@@ -1,5 +1,5 @@
 -- Numbers: "Numbers are decimal, with `-` in front if negative" (docs/BENCH.md). Assumes nothing.
-use mathlib.Core.Bool.{Bool, true, false}
+use mathlib.Core.Bool.{Bool, true}
 use mathlib.Core.List.{List, [], _∷_}
 use Prim.Native.Nat.{ℕ, _+_, _-_, _*_, _%_, min}
 use lib.Dec.{leb, eqb}

@@ -14,10 +14,9 @@ use Rattle.drive.specs.Events.{Event, raised, ended, portFault, withActive, wit
 use Rattle.pending.specs.declared.Pending.{Pending}
 use Rattle.pending.specs.Held as Held
 use Rattle.card.specs.State.{Core, coreOf, protocolOf, withCore, withPlant, protocolNumber, started, restarted}
-use Rattle.card.specs.Events.{Ticked, eventOutcome, eventOn, faultRaised, causeEnded, happened, din1Set, measuredSet, portFaulted, parityTold, counted, tickedIn, ticked}
+use Rattle.card.specs.Events.{Ticked, eventOutcome, eventOn, faultRaised, causeEnded, din1Set, measuredSet, portFaulted, parityTold, counted, tickedIn, ticked}
 use Rattle.card.specs.declared.state.Protocol.{Protocol}
 use Rattle.card.specs.declared.state.Card.{Card}
-use Rattle.card.specs.declared.events.After.{After}
 use Rattle.card.specs.declared.outcome.Outcome.{Outcome}
 use Rattle.card.specs.declared.outcome.Outcome.the-variants.{Done, NoSuchEvent}
 

@@ -1,5 +1,5 @@
 -- Host events on the whole card. Assumes nothing.
-use mathlib.Core.Bool.{Bool, true, false}
+use mathlib.Core.Bool.{Bool}
 use Prim.Native.Nat.{ℕ, _+_}
 use lib.Bits.{bitOr}
 use lib.Dec.{eqb, ltb}

@@ -8,7 +8,6 @@ use Rattle.drive.specs.Plant as Plants
 use Rattle.pending.specs.declared.Pending.{Pending}
 use Rattle.pending.specs.Held as Held
 use Rattle.card.specs.declared.state.Card.{Card}
-use Rattle.card.specs.declared.state.Port.{Port}
 use Rattle.card.specs.declared.state.Protocol.{Protocol}
 use Rattle.card.specs.declared.state.Protocol.the-variants.{Nfo, Rtu, Ascii}
 

@@ -7,7 +7,7 @@ use native.Mathlib.Omega.{arith}
 use lib.ListN.{length, take, drop, length-drop}
 use lib.Seq.{length-take-le}
 use Rattle.base.specs.Buffers.{front}
-use Rattle.port.specs.Port.{Numbers, Parity, fresh}
+use Rattle.port.specs.Port.{Parity, fresh}
 use Rattle.port.specs.Port as Ports
 use Rattle.drive.specs.Plant.{Plant}
 use Rattle.drive.specs.Plant as Plants
@@ -16,10 +16,9 @@ use Rattle.drive.specs.declared.events.Measured.{Measured}
 use Rattle.pending.specs.Held.{empty, emptied}
 use Rattle.card.specs.Outcome.{outcomeNumber}
 use Rattle.card.specs.State.{Core, cardOf, protocolNumber, started, restarted}
-use Rattle.card.specs.Events.{Ticked, eventOutcome, eventOn, faultRaised, causeEnded, happened, din1Set, measuredSet, portFaulted, parityTold, tickedIn, ticked}
+use Rattle.card.specs.Events.{Ticked, eventOutcome, eventOn, faultRaised, causeEnded, din1Set, measuredSet, portFaulted, parityTold, tickedIn, ticked}
 use Rattle.card.specs.declared.state.Card.{Card}
 use Rattle.card.specs.declared.state.Protocol.{Protocol}
-use Rattle.card.specs.declared.events.After.{After}
 use Rattle.card.specs.declared.outcome.Outcome.{Outcome}
 use Rattle.turn.specs.declared.Turn.{Turn}
 use Rattle.turn.specs.declared.Turned.{Turned}
@@ -29,7 +28,7 @@ use Rattle.modbus.specs.declared.requests.Span.{Span}
 use Rattle.rtu.specs.Rtu.{registerSpan, registerData}
 use Rattle.rtu.proofs.Frames.{Within, told-within, data-told}
 use Rattle.linecard.specs.Host.{protocolOf, activeOf, OnPlant, OnPort, Restarts}
-use Rattle.linecard.specs.Told.{Leaves, toldIn, toldOf, placeOf}
+use Rattle.linecard.specs.Told.{Leaves, toldIn, placeOf}
 
 -- ---- start and restart: each part is the definition's
 pub started-in : (n : ℕ) (k : Protocol) (q p : Plant) → k ≡ protocolOf n → q ≡ fresh (protocolNumber k) → p ≡ Plants.started

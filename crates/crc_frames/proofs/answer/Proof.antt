@@ -1,8 +1,6 @@
 use borrow.Author.Needs.{needs}
 use Rattle.crc_frames.proofs.answer.Statement.{statement}
 use Rattle.crc_frames.proofs.answer.Tie as tie
-use Rattle.crc_frames.proofs.answer.Reads as reads
-use Rattle.crc_frames.proofs.answer.Lts as lts
 use Rattle.crc_frames.proofs.line.line_crc.Reads as line-crc-reads
 use Rattle.crc_frames.proofs.print.Reads as print-reads
 

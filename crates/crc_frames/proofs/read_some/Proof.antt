@@ -1,8 +1,6 @@
 use borrow.Author.Needs.{needs}
 use Rattle.crc_frames.proofs.read_some.Statement.{statement}
 use Rattle.crc_frames.proofs.read_some.Tie as tie
-use Rattle.crc_frames.proofs.read_some.Reads as reads
-use Rattle.crc_frames.proofs.read_some.Lts as lts
 use Rattle.crc_frames.proofs.feed.Reads as feed-reads
 use Rattle.io.proofs.buffer.Reads as buffer-reads
 use Rattle.io.proofs.count.Reads as count-reads

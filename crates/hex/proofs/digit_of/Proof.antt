@@ -1,5 +1,4 @@
 -- `hex::digit_of` meets its contract: each arm is the digit that the definition has of its number. Assumes nothing.
-use borrow.Author.Needs.{needs}
 use Rattle.base.proofs.Arms.{rest-none, upFrom}
 use Rattle.hex.specs.Hex.{digitOf}
 use Rattle.hex.proofs.Characters.{digit-at, digit-last}

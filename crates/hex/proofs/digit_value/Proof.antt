@@ -1,5 +1,4 @@
 -- `hex::digit_value` meets its contract: the character less `0`, or less `A`, modulo 256, is small exactly where it is such a digit. Assumes nothing.
-use native.Mathlib.Omega.{arith}
 use borrow.Author.Needs.{needs}
 use Rattle.hex.proofs.Characters.{value-first, value-second, value-none}
 use Rattle.hex.proofs.digit_value.Statement.{statement}
