@@ -101,10 +101,10 @@ def edits():
 
 
 def edited(crate, edit):
-    """What an edit is of: a program, a definition, or both."""
+    """What an edit is of: a program, a definition, or both alike. (The proof that a program meets its definition may change with them.)"""
     path = "crates/%s/must-fail/%s.edit" % (crate, edit)
-    folders = re.findall(r"^file: (\w+)/", text(path), re.M) if os.path.exists(os.path.join(TOP, path)) else []
-    return sorted({{"src": "program", "specs": "definition"}.get(folder, "file in %s" % folder) for folder in folders})
+    folders = set(re.findall(r"^file: (\w+)/", text(path), re.M) if os.path.exists(os.path.join(TOP, path)) else [])
+    return {(True, False): "program", (False, True): "definition", (True, True): "both"}.get(("src" in folders, "specs" in folders), "proof")
 
 
 def routines(crate):
@@ -157,7 +157,8 @@ def promises():
     rows, wrong = cells("docs/PROMISES.md", "The edits"), edits()
     faults = differs("The edits", ["%s/%s" % (row[0], row[1].strip("`")) for row in rows], wrong)
     faults += ["The edits: %s shows nothing, or is refused nowhere" % row[1] for row in rows if len(row) != 5 or not all(row)]
-    faults += ["The edits: %s is of a %s" % (row[1], kind) for row in rows for kind in edited(row[0], row[1].strip("`")) if kind != row[2]]
+    kinds = [(row, edited(row[0], row[1].strip("`"))) for row in rows]
+    faults += ["The edits: %s is of: %s" % (row[1], kind) for row, kind in kinds if kind != row[2]]
     for crate in crates():
         faults += ["%s: %s" % (crate, fault) for fault in promises_of(crate, wrong)]
     others = [name for name in sections("docs/PROMISES.md") if name not in crates() + ["The edits"]]

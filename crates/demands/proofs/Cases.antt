@@ -1,6 +1,5 @@
--- The ★ cases, by computation. Assumes nothing.
-use mathlib.Core.Path.{_≡_, refl}
-use mathlib.Core.List.{map}
+-- The worked cases, by computation. Assumes nothing.
+use mathlib.Core.Path.{refl}
 use Rattle.table.specs.Table.{rows, lineAt, startWords}
 use Rattle.table.specs.Address.{address, firstRegister}
 use Rattle.table.specs.Find.{firstRow, rowFrom, rowOfE, rowOfSpan}
@@ -8,6 +7,7 @@ use Rattle.allowed.specs.Allowed.{twos, integerOf, within, member, belowLimt, a
 use Rattle.hex.specs.Hex.{isHex, allHex, digitValue, digitOf, pairValue, hexOf, bytesOf}
 use Rattle.checks.specs.Bcc.{bccOf}
 use Rattle.checks.specs.Lrc.{addsToZero, lrcOf, sumOf, totalOf}
+use Rattle.checks.specs.Crc as Crc
 use Rattle.drive.specs.Plant as Plant
 use Rattle.drive.specs.Flags as Flags
 use Rattle.drive.specs.Faults as Faults
@@ -25,22 +25,23 @@ use Rattle.nfo_parts.specs.Parts.{valueAt, parameterAt, messageOf}
 use Rattle.nfo_parts.specs.Replies.{digitsOf, bodyOf, replyOf, ackOf, nakOf}
 use Rattle.nfo_service.specs.Serve as Serve
 use Rattle.nfo_service.specs.Reply as Reply
-use Rattle.modbus_words.specs.Words.{wordAt, wordBytes, longBytes}
-use Rattle.modbus.specs.Request.{asked, reads, requestOf}
+use Rattle.modbus_words.specs.Words.{wordAt, longAt, wordBytes, longBytes}
+use Rattle.modbus.specs.Request.{asked, reads, writes, requestOf}
 use Rattle.modbus.specs.Answer.{unitOf}
 use Rattle.modbus_service.specs.Serve as Modbus
 use Rattle.modbus_service.specs.Reply as Answers
-use Rattle.ascii.specs.Ascii.{textOf, bytesIn, counted, right, asciiOf}
+use Rattle.ascii.specs.Ascii.{textOf, bytesIn, counted, right, asciiOf, unitAmong}
+use Rattle.rtu.specs.Rtu as Rtu
 use Rattle.ascii_scan.specs.Scan as Ascii
-use Rattle.ascii.specs.Ascii.{unitAmong}
 use Rattle.card.specs.State.{started}
 use Rattle.card.specs.Events.{eventOutcome, eventOn, faultRaised, causeEnded}
 use Rattle.turn.specs.Turn.{waiting, cardAfter}
 use Rattle.nfo_port.specs.Receive.{nfoReceived}
+use Rattle.rtu_port.specs.Receive.{rtuReceived}
 use Rattle.ascii_port.specs.Receive.{asciiReceived}
 use Rattle.receive.specs.Receive.{received}
-use Rattle.demands.specs.Cases.{heard, Case, cases}
+use Rattle.demands.specs.Cases.{cases, Cases}
 
-pub cases-hold : map (λ (k : Case). heard 3 (k .card) (k .bytes)) cases ≡ map (λ (k : Case). k .right) cases
-unfolding cases rows lineAt startWords address firstRegister firstRow rowFrom rowOfE rowOfSpan twos integerOf within member belowLimt aboveMagn atMode setpointAllows allows allowedAt isHex allHex digitValue digitOf pairValue hexOf bytesOf bccOf addsToZero lrcOf sumOf totalOf Plant.started Flags.flagged Flags.lowestFrom Flags.lowestOf Faults.active Faults.flagStands Faults.flagRaised Faults.runs Faults.statusOf Faults.only14 Faults.stopped Plants.isFault Plants.raised Plants.ended Read.stored Read.told Refusals.readOnly Refusals.boundsOf Refusals.allowed Refusals.initRunning Refusals.permitted Permit.permitOf Write.followed Write.applied Write.written toldServed wroteServed Held.held Held.empty Held.emptied Held.pushed Held.beganWith scanFrom enquiry select bccIn Nfo.fitsAt Nfo.stepIn Nfo.stepOf Nfo.again Nfo.ends Nfo.fed valueAt parameterAt messageOf digitsOf bodyOf replyOf ackOf nakOf Serve.toUs Serve.reachesUs Serve.rowNamed Serve.enquiryServed Serve.stops Serve.rowSelected Serve.selectServed Serve.served Reply.repliedBy Reply.replied wordAt wordBytes longBytes asked reads requestOf unitOf Modbus.reachesUs Modbus.taskOf Modbus.done Modbus.served Answers.registersTold Answers.repliedBy Answers.replied Answers.exchanged textOf bytesIn counted right asciiOf Ascii.again Ascii.crFits Ascii.digitFits Ascii.ended Ascii.ends Ascii.fed Ascii.goesOn unitAmong started eventOutcome told faultRaised causeEnded waiting cardAfter nfoReceived asciiReceived received
+pub cases-hold : Cases
+unfolding cases rows lineAt startWords address firstRegister firstRow rowFrom rowOfE rowOfSpan twos integerOf within member belowLimt aboveMagn atMode setpointAllows allows allowedAt isHex allHex digitValue digitOf pairValue hexOf bytesOf bccOf addsToZero lrcOf sumOf totalOf Plant.started Flags.flagged Flags.lowestFrom Flags.lowestOf Faults.active Faults.flagStands Faults.flagRaised Faults.runs Faults.statusOf Faults.only14 Faults.stopped Plants.isFault Plants.raised Plants.ended Read.stored Read.told Refusals.readOnly Refusals.boundsOf Refusals.allowed Refusals.initRunning Refusals.permitted Permit.permitOf Write.followed Write.applied Write.written toldServed wroteServed Held.held Held.empty Held.emptied Held.pushed Held.beganWith scanFrom enquiry select bccIn Nfo.fitsAt Nfo.stepIn Nfo.stepOf Nfo.again Nfo.ends Nfo.fed valueAt parameterAt messageOf digitsOf bodyOf replyOf ackOf nakOf Serve.toUs Serve.reachesUs Serve.rowNamed Serve.enquiryServed Serve.stops Serve.rowSelected Serve.selectServed Serve.served Reply.repliedBy Reply.replied wordAt wordBytes longBytes asked reads requestOf unitOf Modbus.reachesUs Modbus.taskOf Modbus.done Modbus.served Answers.registersTold Answers.repliedBy Answers.replied Answers.exchanged textOf bytesIn counted right asciiOf Ascii.again Ascii.crFits Ascii.digitFits Ascii.ended Ascii.ends Ascii.fed Ascii.goesOn unitAmong started eventOutcome eventOn faultRaised causeEnded waiting cardAfter nfoReceived rtuReceived asciiReceived received Crc.crcBit Crc.crcByte Crc.crcOf Crc.bodyOf Crc.crcBytes Crc.crcTold Crc.crcHolds Rtu.frameHolds Rtu.addressIn Rtu.unitIn Rtu.rtuOf longAt writes
 cases-hold = refl

@@ -6,6 +6,7 @@ use Prim.Native.Nat.{ℕ, suc, _+_, _≤_}
 use native.Mathlib.Omega.{arith}
 use borrow.Author.Tests.{le-ltb}
 use lib.ListN.{drop}
+use Rattle.base.specs.Buffers.{replyLeast}
 use Rattle.base.specs.Choice.{pick}
 use Rattle.base.proofs.Tests.{pick-both}
 use Rattle.pending.specs.declared.Pending.{Pending}
@@ -17,7 +18,7 @@ use Rattle.card.specs.State.{protocolOf, withPending}
 use Rattle.turn.specs.Turn.{Received, waiting, cardAfter, answered}
 use Rattle.turn.specs.Stream.{Stream, byScan, streamed}
 use Rattle.receive.specs.Receive.{received}
-use Rattle.demands.specs.Calls.{Protocol, Course, Calls, over, call, Speaks, adding, ended}
+use Rattle.demands.specs.Calls.{Wire, Course, Calls, over, call, Speaks, adding, ended}
 use Rattle.demands.proofs.Serving.{after-speaks}
 
 module _ (S : Stream) where
@@ -92,10 +93,10 @@ module _ (S : Stream) where
             ∙ ap (λ (z : Scan). rest y (byScan S c z) (b ∷ x)) (sym (scan-after (S .feeding) x q 1 0))
 
     -- ---- THE CALLS: whatever they are, what comes of the stream is its course
-    module _ (P : Protocol) (calls : (c : Card) (x : List ℕ) (room : ℕ) → Speaks P c → received c x room ≡ streamed S c x room)
+    module _ (P : Wire) (calls : (c : Card) (x : List ℕ) (room : ℕ) → Speaks P c → received c x room ≡ streamed S c x room)
         (speaks : (c : Card) (q : Pending) → protocol (S .served c q .port) ≡ protocolOf c) where
-      called : (c : Card) (x : List ℕ) (room : ℕ) → Speaks P c → 19 ≤ room → received c x room ≡ scanOf c x
-      called c x room p h = calls c x room p ∙ simp (le-ltb room 19 h)
+      called : (c : Card) (x : List ℕ) (room : ℕ) → Speaks P c → replyLeast ≤ room → received c x room ≡ scanOf c x
+      called c x room p h = calls c x room p ∙ simp (le-ltb room replyLeast h)
 
       -- a call leaves the port's protocol as it is
       keeps : (c : Card) (scan : Scan) → protocolOf (byScan S c scan .card) ≡ protocolOf c
@@ -104,7 +105,7 @@ module _ (S : Stream) where
           let s = S .served c (scan .pending) in
           pick-both (λ (r : Received). protocolOf (r .card) ≡ protocolOf c) (scan .taken) (λ e. after-speaks (s .answer) (s .port) ∙ speaks c (scan .pending)) (λ e. refl)
 
-      still : (c : Card) (x : List ℕ) (room : ℕ) → Speaks P c → 19 ≤ room → Speaks P (received c x room .card)
+      still : (c : Card) (x : List ℕ) (room : ℕ) → Speaks P c → replyLeast ≤ room → Speaks P (received c x room .card)
       still c x room p h = ap (λ (r : Received). protocolOf (r .card)) (called c x room p h) ∙ keeps c (scanFrom (S .feeding) (c .port .pending) 0 x) ∙ p
 
       pub calls-course : {c : Card} {s : List ℕ} {k : Course} → Speaks P c → Calls c s k → k ≡ course c s
@@ -112,26 +113,3 @@ module _ (S : Stream) where
       calls-course p over = refl
       calls-course {c} p (call x y room h r) =
           ap (adding (received c x room)) (calls-course (still c x room p h) r) ∙ ap (λ (z : Received). rest y z x) (called c x room p h) ∙ sym (course-call x y c)
-
-      one-used : (c : Card) (b : ℕ) → scanOf c (b ∷ []) .used ≡ 1
-      unfolding scanFrom waiting
-      one-used c b = go (S .feeding .ends (c .port .pending) b)
-        where
-          q : Pending
-          q = S .feeding .next (c .port .pending) b
-
-          go : (t : Bool) → byScan S c (pick t (record { pending = q; used = 1; taken = true }) (record { pending = q; used = 1; taken = false })) .used ≡ 1
-          go true = refl
-          go false = refl
-
-      just : 19 ≤ 19
-      just = omega arith
-
-      -- for every stream there are calls: one for each byte
-      pub some-calls : (s : List ℕ) (c : Card) → Speaks P c → (k : Course) × Calls c s k
-      some-calls [] c p = (ended c, over)
-      some-calls (b ∷ s) c p =
-          let r : Received = received c (b ∷ []) 19 in
-          let n : r .used ≡ 1 = ap (λ (z : Received). z .used) (called c (b ∷ []) 19 p just) ∙ one-used c b in
-          let l = some-calls s (r .card) (still c (b ∷ []) 19 p just) in
-          (adding r (l .0), call {c = c} (b ∷ []) s 19 {k = l .0} just (rw n (l .1)))

@@ -7,6 +7,7 @@ use native.Mathlib.Omega.{arith}
 use borrow.Author.Tests.{ltb-false}
 use lib.Dec.{ltb}
 use lib.ListN.{length, getD}
+use Rattle.base.specs.Buffers.{replyLeast}
 use Rattle.base.specs.Choice.{pick, either}
 use Rattle.base.specs.Order.{when, firstOf, saying}
 use Rattle.base.proofs.Tests.{pick-yes}
@@ -14,7 +15,6 @@ use Rattle.base.proofs.Sets.{fitting-none}
 use Rattle.table.specs.Names.{SioTot}
 use Rattle.drive.specs.Plant.{Plant}
 use Rattle.drive.specs.Events.{isFault, event, raised, ended}
-use Rattle.nfo_service.specs.Reply as NfoReply
 use Rattle.card.specs.State.{Core, coreOf, withCore, withPlant}
 use Rattle.card.specs.Events.{eventOutcome, eventOn, faultRaised, causeEnded, din1Set, measuredSet, parityTold, counted, Ticked, tickedIn, ticked}
 use Rattle.card.specs.Outcome.{outcomeNumber}
@@ -25,26 +25,26 @@ use Rattle.master.specs.declared.Sent.{Sent}
 use Rattle.master.specs.declared.Sent.the-variants.{Written, CannotBeSaid, ShortBuffer}
 use Rattle.master.specs.Sent.{sentNumber, refusals, sentOf, bytesSent}
 use Rattle.master.proofs.Sends.{sent-cases}
-use Rattle.modbus_service.specs.Reply as ModbusReply
 use Rattle.receive.specs.Receive.{received}
 use Rattle.receive.proofs.Laws.{received-used, received-short}
 use Rattle.demands.specs.Orders.{callOrder}
-use Rattle.demands.specs.Demand1.{numberIn, Receiving, Refuses, Events, Writing, Demand1, Replying}
+use Rattle.demands.specs.Demand1.{numberIn, Receiving, Refuses, Events, Writing, Demand1}
 use Rattle.demands.proofs.Numbered.{gives, received-number}
 use Rattle.demands.proofs.Leaving.{received-leaves}
-use Rattle.demands.proofs.Waiting.{nfo-nothing, ascii-nothing}
+use Rattle.demands.proofs.OneCall.{nfo-nothing, ascii-nothing, nfo-takes, ascii-takes, rtu-used}
+use Rattle.demands.proofs.Unsaid.{unsaid}
 use Rattle.demands.proofs.Hearing.{hearing}
 
 -- ---- calls
 reply-fits : (c : Card) (bytes : List ℕ) (room : ℕ) → length (received c bytes room .reply) ≤ room
-reply-fits c bytes room = go (ltb room 19) refl
+reply-fits c bytes room = go (ltb room replyLeast) refl
   where
-    go : (t : Bool) → ltb room 19 ≡ t → length (received c bytes room .reply) ≤ room
+    go : (t : Bool) → ltb room replyLeast ≡ t → length (received c bytes room .reply) ≤ room
     go true e =
-        let ten : numberIn (received c bytes room) ≡ 10 = received-number c bytes room ∙ sym (pick-yes (ltb room 19) _ _ 10 e refl) in
+        let ten : numberIn (received c bytes room) ≡ 10 = received-number c bytes room ∙ sym (pick-yes (ltb room replyLeast) _ _ 10 e refl) in
         let none : length (received c bytes room .reply) ≡ 0 = ap length (received-leaves c bytes room .short ten .2) in
         omega (arith, none)
-    go false e = omega (arith, received-short c bytes room, ltb-false room 19 e)
+    go false e = omega (arith, received-short c bytes room, ltb-false room replyLeast e)
 
 receiving : Receiving
 receiving =
@@ -53,6 +53,9 @@ receiving =
       number = λ c bytes room n. gives outcomeNumber (callOrder c bytes room) (numberIn (received c bytes room)) n (received-number c bytes room);
       nfo-nothing = nfo-nothing;
       ascii-nothing = ascii-nothing;
+      nfo-takes = nfo-takes;
+      ascii-takes = ascii-takes;
+      rtu-used = rtu-used;
       leaves = λ c bytes room. received-leaves c bytes room;
     }
 
@@ -124,10 +127,5 @@ writing : Writing
 writing =
     record { number = λ s m room n. gives sentNumber (refusals s m room) (sentNumber (sentOf s m room)) n (sent-number s m room); unsent = unsent }
 
--- ---- the replies of refusals
-replying : Replying
-unfolding NfoReply.replied NfoReply.repliedBy ModbusReply.replied ModbusReply.repliedBy
-replying = record { nfo = λ m x. refl; modbus = λ address unit x. refl }
-
 pub demand-1 : Demand1
-demand-1 = (receiving, replying, events, writing, hearing)
+demand-1 = record { receiving = receiving; events = events; writing = writing; unsaid = unsaid; hearing = hearing }

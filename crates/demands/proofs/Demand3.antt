@@ -1,55 +1,24 @@
 -- Demand 3 holds: the calls of `receive` come to the course of the stream, byte by byte, and that course is the reading. Assumes nothing.
 use mathlib.Core.Path.{_≡_, refl, sym, _∙_}
-use mathlib.Core.Bool.{true}
 use mathlib.Core.List.{List, []}
 use Prim.Native.Nat.{ℕ}
-use native.Mathlib.Omega.{arith}
-use Rattle.stream.specs.Format.{Lawful}
 use Rattle.stream.specs.Reading.{Yield, Reads}
 use Rattle.stream.specs.Automaton.{feedAll}
 use Rattle.stream.specs.Scanned.{messagesOf}
-use Rattle.stream.specs.Theorem.{StreamTheorem}
 use Rattle.stream.proofs.Reading.{empty-viable}
-use Rattle.pending.specs.declared.Pending.{Pending}
-use Rattle.pending.specs.Held.{Sized}
-use Rattle.pending.specs.Scanning.{Follows}
-use Rattle.nfo.proofs.Lawful.{nfo-lawful, nfo-stream}
-use Rattle.nfo.proofs.Follows.{nfo-follows}
-use Rattle.nfo.proofs.Alone as Alone
-use Rattle.ascii.proofs.Lawful.{ascii-lawful, ascii-stream}
-use Rattle.ascii_scan.proofs.Follows.{ascii-follows}
-use Rattle.ascii_scan.proofs.Parsed.{message-held}
-use Rattle.port.specs.Port.{protocol}
-use Rattle.card.specs.State.{protocolOf, withPending}
 use Rattle.card.specs.declared.state.Card.{Card}
-use Rattle.modbus_service.specs.Reply.{exchanged}
-use Rattle.turn.specs.Stream.{Stream, streamed}
-use Rattle.nfo_port.specs.Receive.{nfoStream, nfoReceived}
-use Rattle.ascii_port.specs.Receive.{asciiStream, asciiReceived}
-use Rattle.receive.specs.Receive.{received}
-use Rattle.receive.proofs.Laws.{by-nfo, by-ascii}
-use Rattle.demands.specs.Calls.{Protocol, Course, Calls, Speaks, servedAll}
-use Rattle.demands.specs.Demand3.{nfoSerial, modbusAscii, NothingPending, besides, Same, Demand3}
-use Rattle.demands.proofs.Serving.{nfo-speaks, modbus-speaks}
-use Rattle.demands.proofs.Course.{course, calls-course, some-calls}
+use Rattle.turn.specs.Stream.{Stream}
+use Rattle.nfo_port.specs.Receive.{nfoStream}
+use Rattle.ascii_port.specs.Receive.{asciiStream}
+use Rattle.demands.specs.Calls.{Wire, Course, Calls, Speaks, servedAll, nfoSerial, modbusAscii, NothingPending}
+use Rattle.demands.specs.Demand3.{Same, Streams, Demand3}
+use Rattle.demands.proofs.Streamed.{Streamed, nfo-streamed, ascii-streamed}
+use Rattle.demands.proofs.Course.{course, calls-course}
 use Rattle.demands.proofs.Reading.{Alike, reads}
+use Rattle.demands.proofs.Once.{ascii-once}
+use Rattle.demands.proofs.Given.{progress, to-the-end, are-calls}
 
--- what makes a protocol one that comes as a stream
-pub record Streams (P : Protocol) (S : Stream) : Type 0 where
-  pub lawful : Lawful (P .format)
-  pub theory : StreamTheorem (P .format)
-  pub follows : Follows (P .format) (S .feeding)
-  pub calls : (c : Card) (x : List ℕ) (room : ℕ) → Speaks P c → received c x room ≡ streamed S c x room
-  -- a message leaves the port's protocol as it is
-  pub speaks : (c : Card) (q : Pending) → protocol (S .served c q .port) ≡ protocolOf c
-  -- a message that is held is served as its bytes are
-  pub takes : (c : Card) (q : Pending) → Sized q → P .format .formed (S .feeding .message q) ≡ true
-      → (S .served c q ≡ P .served c (S .feeding .message q)) × (S .reply c q ≡ P .reply c (S .feeding .message q))
-  -- and by what the card holds besides the bytes pending
-  pub same : (c : Card) (q r : Pending) → (S .served (withPending q c) r ≡ S .served c r) × (S .reply (withPending q c) r ≡ S .reply c r)
-  pub alone : (c : Card) (m : List ℕ) → (P .served c m ≡ P .served (besides c) m) × (P .reply c m ≡ P .reply (besides c) m)
-
-module _ (P : Protocol) (S : Stream) (H : Streams P S) where
+module _ (P : Wire) (S : Stream) (H : Streamed P S) where
   of-calls : (c : Card) (s : List ℕ) (k : Course) → Speaks P c → Calls c s k → k ≡ course S c s
   of-calls c s k p = calls-course S (H .same) P (H .calls) (H .speaks) p
 
@@ -61,55 +30,17 @@ module _ (P : Protocol) (S : Stream) (H : Streams P S) where
       reads P S (H .lawful) (H .follows) (H .takes) (H .alone) s 0 [] c c none size (empty-viable (P .format) (H .lawful)) refl in
       rw (n, z) (record { outcomes = a .outcomes; replies = a .replies; state = a .state; pending = a .pending })
 
-  pub streams-demand : Demand3 P
-  streams-demand =
-      record {
-        reading = reading;
-        any-cut = λ c p s k l a b. of-calls c s k p a ∙ sym (of-calls c s l p b);
-        some-calls = λ c p s. some-calls S (H .same) P (H .calls) (H .speaks) s c p;
-        theory = H .theory;
-      }
+  streams : Streams P
+  streams = record { reading = reading; any-cut = λ c p s k l a b. of-calls c s k p a ∙ sym (of-calls c s l p b); theory = H .theory }
 
--- ---- NFO serial
-pub nfo-calls : (c : Card) (x : List ℕ) (room : ℕ) → Speaks nfoSerial c → received c x room ≡ streamed nfoStream c x room
-unfolding nfoReceived
-nfo-calls c x room p = by-nfo c x room (λ q. omega (arith, p, q)) (λ q. omega (arith, p, q))
-
-nfo-streams : Streams nfoSerial nfoStream
-nfo-streams =
+-- ---- DEMAND 3
+pub demand-3 : Demand3
+demand-3 =
     record {
-      lawful = nfo-lawful;
-      theory = nfo-stream;
-      follows = nfo-follows;
-      calls = nfo-calls;
-      speaks = λ c q. nfo-speaks (c .plant) (c .port .numbers) _;
-      takes = λ c q size w. rw (Alone.message-held q w) (refl, refl);
-      same = λ c q r. (refl, refl);
-      alone = λ c m. (refl, refl);
+      nfo = streams nfoSerial nfoStream nfo-streamed;
+      modbus-ascii = streams modbusAscii asciiStream ascii-streamed;
+      ascii-once = ascii-once;
+      progress = progress;
+      to-the-end = to-the-end;
+      are-calls = are-calls;
     }
-
--- ---- Modbus ASCII
-pub ascii-calls : (c : Card) (x : List ℕ) (room : ℕ) → Speaks modbusAscii c → received c x room ≡ streamed asciiStream c x room
-unfolding asciiReceived
-ascii-calls c x room p = by-ascii c x room p
-
-ascii-speaks : (c : Card) (q : Pending) → protocol (asciiStream .served c q .port) ≡ protocolOf c
-unfolding exchanged
-ascii-speaks c q = modbus-speaks (c .plant) (c .port .numbers) _ _
-
-ascii-streams : Streams modbusAscii asciiStream
-ascii-streams =
-    record {
-      lawful = ascii-lawful;
-      theory = ascii-stream;
-      follows = ascii-follows;
-      calls = ascii-calls;
-      speaks = ascii-speaks;
-      takes = λ c q size w. rw (message-held q w) (refl, refl);
-      same = λ c q r. (refl, refl);
-      alone = λ c m. (refl, refl);
-    }
-
--- ---- DEMAND 3, of both
-pub demand-3 : Demand3 nfoSerial × Demand3 modbusAscii
-demand-3 = (streams-demand nfoSerial nfoStream nfo-streams, streams-demand modbusAscii asciiStream ascii-streams)

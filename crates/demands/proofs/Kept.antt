@@ -1,299 +1,320 @@
--- Each routine keeps our own address, MbAdr, MODE and SCMD among document 01's numbers: each is a run of numbers set, and a number is set at one of these names
--- only where it is right there. A write of them is refused unless it is allowed, and events only set SCMD to 0. Assumes nothing.
-use mathlib.Core.Path.{_≡_, refl, sym, ap, _∙_}
-use mathlib.Core.Logic.{_⊎_, inl, inr}
-use mathlib.Core.Bool.{Bool, true, false, not, false≢true}
-use mathlib.Core.List.{List, [], _∷_}
-use Prim.Native.Nat.{ℕ, suc, _+_, _-_}
+-- Each routine keeps a card sound: its plant number by number, and at its port what is pending a beginning, the protocol, and the time sum. Assumes nothing.
+use mathlib.Core.Path.{_≡_, refl, sym, _∙_}
+use mathlib.Core.Bool.{Bool, true, not}
+use mathlib.Core.List.{List, []}
+use Prim.Native.Nat.{ℕ, _+_, _≤_}
 use native.Mathlib.Omega.{arith}
-use borrow.Author.Tests.{not-false, eqb-true, eqb-false, leb-true, ltb-true, ltb-false}
+use borrow.Author.Tests.{not-false, eqb-true, eqb-false}
 use lib.Dec.{eqb, ltb}
-use lib.IntN.{pos, negsuc}
-use lib.Signed.{leZ}
-use lib.ListN.{length, getD, set}
-use lib.Seq.{getD-set-same, getD-set-other, set-out}
-use Rattle.base.specs.Choice.{pick, both, either}
-use Rattle.base.proofs.Tests.{pick-both, both-out, either-out, either-false, not-both}
-use Rattle.table.specs.Table.{rows, lineAt, startWords}
-use Rattle.table.specs.Names.{MbAdr, Mode, Setpoint, MODE, SCMD, Inv-St-ack, Inv-St, SioErr, FrqAct, I-rms, OpTime}
+use lib.ListN.{length, getD, set, length-set}
+use lib.Seq.{getD-set-same, getD-set-other}
+use Rattle.base.specs.Buffers.{replyLeast}
+use Rattle.base.specs.Choice.{either}
+use Rattle.base.proofs.Tests.{pick-both}
+use Rattle.table.specs.Names.{SioTot, Inv-St-ack, Inv-St, SioErr}
 use Rattle.table.specs.declared.labels.Row.{Row}
-use Rattle.allowed.specs.Allowed.{twos, within, member, allows, allowedAt}
-use Rattle.port.specs.Port.{Numbers, sum}
-use Rattle.drive.specs.Plant as Plants
-use Rattle.drive.specs.Plant.{Plant, Station, DIN1, Causes, Flags, mode, withScmd}
-use Rattle.drive.specs.Faults.{flagStands, flagRaised, acknowledged, without14, stopped}
-use Rattle.drive.specs.Events.{isFault, Event, raised, ended, portFault, withActive, withMeasured}
+use Rattle.port.specs.Port.{Numbers, ProtocolAt, Sum, Sioerr, protocol, sum, withSum, withSioerr}
+use Rattle.drive.specs.Plant.{Plant}
+use Rattle.drive.specs.Faults.{flagStands, without14, stopped}
+use Rattle.drive.specs.Events.{raised, ended, withActive, withMeasured}
 use Rattle.drive.specs.declared.events.Measured.{Measured}
-use Rattle.drive.specs.declared.events.Measured.the-variants.{Frq, Rms, Optime}
+use Rattle.answers.specs.declared.Answer.{Answer}
+use Rattle.answers.specs.declared.Answer.the-variants as Answers
 use Rattle.reading.specs.Read.{Told, told}
-use Rattle.permit.specs.Refusals.{readOnly, allowed, initRunning, permitted}
+use Rattle.permit.specs.Refusals.{readOnly, allowed, permitted}
+use Rattle.permit.specs.Refusals as Refusals
 use Rattle.permit.specs.Permit.{permitOf}
 use Rattle.permit.specs.declared.Permit.{Permit}
-use Rattle.service.specs.Write.{followed, applied, after, written}
+use Rattle.service.specs.Write.{after, written}
 use Rattle.service.specs.Serving.{Served, toldServed, wroteServed}
+use Rattle.service.specs.Serving as Serving
+use Rattle.stream.specs.Format.{Format, Lawful}
+use Rattle.stream.proofs.Reading.{empty-viable}
+use Rattle.pending.specs.declared.Pending.{Pending}
+use Rattle.pending.specs.Held.{held, Sized}
+use Rattle.pending.specs.Scanning.{Scan, scanFrom, Follows}
+use Rattle.pending.proofs.Laws.{held-empty, held-emptied, sized-empty, sized-emptied}
+use Rattle.pending.proofs.Scans.{scan-sized, scan-leaves}
+use Rattle.nfo.specs.Message.{nfo}
+use Rattle.nfo.proofs.Lawful.{nfo-lawful}
+use Rattle.nfo.proofs.Follows.{nfo-follows}
+use Rattle.ascii.specs.Ascii.{ascii}
+use Rattle.ascii.proofs.Lawful.{ascii-lawful}
+use Rattle.ascii_scan.proofs.Follows.{ascii-follows}
 use Rattle.nfo_parts.specs.declared.message.Message.{Message}
-use Rattle.nfo_service.specs.Serve as Nfo
+use Rattle.nfo_service.specs.Serve as NfoServe
 use Rattle.modbus_service.specs.Serve as Modbus
 use Rattle.modbus_service.specs.Reply.{exchanged}
 use Rattle.card.specs.State as State
-use Rattle.card.specs.State.{Core, coreOf, protocolOf}
+use Rattle.card.specs.State.{Core, coreOf, protocolOf, withCore, withPending}
 use Rattle.card.specs.Events as Events
 use Rattle.card.specs.declared.state.Card.{Card}
 use Rattle.card.specs.declared.state.Protocol as Protocols
-use Rattle.pending.specs.declared.Pending.{Pending}
-use Rattle.turn.specs.Turn.{Received, waiting, cardAfter}
+use Rattle.card.specs.declared.state.Protocol.the-variants.{Nfo, Rtu, Ascii}
+use Rattle.turn.specs.Turn.{Received, waiting, portAfter, cardAfter}
 use Rattle.turn.specs.Stream.{Stream, streamed}
-use Rattle.pending.specs.Scanning.{scanFrom}
 use Rattle.nfo_port.specs.Receive.{nfoStream, nfoReceived}
 use Rattle.rtu_port.specs.Receive.{rtuReceived}
 use Rattle.rtu.specs.Rtu.{frameHolds, addressIn, unitIn}
 use Rattle.ascii_port.specs.Receive.{asciiStream, asciiReceived}
 use Rattle.receive.specs.Receive.{received}
-use Rattle.master_reply.specs.Told.{Within}
-use Rattle.demands.specs.Kept.{Command, Allowed, Addressed, Kept}
+use Rattle.demands.specs.Kept.{SoundPlant, SoundPending, Sound, Kept}
 use Rattle.demands.proofs.Serving.{nfo-each, modbus-each}
+use Rattle.demands.proofs.KeptPlant.{Fits, acknowledged-keeps, without14-keeps, stopped-keeps, applied-keeps, raised-keeps, ended-keeps, active-keeps, measured-keeps, fault-keeps, restarted-keeps, started-sound}
 
--- ---- "MbAdr | 1..247": what the row allows
-narrow : (w : ℕ) (a b : Bool)
-    → pick a (both (leZ (pos 1) (pick b (pos w) (negsuc (0x8000 + 0x8000 - suc w)))) (leZ (pick b (pos w) (negsuc (0x8000 + 0x8000 - suc w))) (pos 247))) false ≡ true → Within 1 247 w
-narrow w false b h = absurd (false≢true h)
-narrow w true false h = absurd (false≢true h)
-narrow w true true h = let r = both-out (leZ (pos 1) (pos w)) (leZ (pos w) (pos 247)) h in (leb-true 1 w (r .0), leb-true w 247 (r .1))
+-- ---- the port's numbers, for a protocol n
+abbrev SoundPort : ℕ → Numbers → Type 0
+SoundPort n q = (length q ≡ 3) × (protocol q ≡ n)
 
-mb-adr : (p : Plant) (w : ℕ) → allowed p MbAdr w ≡ true → Within 1 247 w
-unfolding allowed allowedAt lineAt rows allows within twos
-mb-adr p w h = narrow w (ltb w 0x10000) (ltb w 0x8000) h
+-- a number set at another name leaves the protocol as it was
+port-set : (n i v : ℕ) (q : Numbers) → (ProtocolAt ≡ i → ⊥) → SoundPort n q → SoundPort n (set q i v)
+port-set n i v q o (size, same) = (length-set q i v ∙ size, getD-set-other q i ProtocolAt v 0 o ∙ same)
 
--- a list of three, the last of which is repeated
-one-of : (w a b c : ℕ) → either (eqb w a) (either (eqb w b) (either (eqb w c) (either (eqb w c) false))) ≡ true → (w ≡ a) ⊎ ((w ≡ b) ⊎ (w ≡ c))
-one-of w a b c h = go (either-out (eqb w a) _ h)
-  where
-    last : (eqb w c ≡ true) ⊎ (either (eqb w c) false ≡ true) → w ≡ c
-    last (inl e) = eqb-true w c e
-    last (inr e) = eqb-true w c (sym (either-false (eqb w c)) ∙ e)
+-- so do the sum and SioErr
+sum-set : (n x : ℕ) (q : Numbers) → SoundPort n q → SoundPort n (withSum x q)
+sum-set n x q = port-set n Sum x q (λ e. omega (arith, e))
 
-    next : (eqb w b ≡ true) ⊎ (either (eqb w c) (either (eqb w c) false) ≡ true) → (w ≡ b) ⊎ (w ≡ c)
-    next (inl e) = inl (eqb-true w b e)
-    next (inr e) = inr (last (either-out (eqb w c) (either (eqb w c) false) e))
+sioerr-set : (n x : ℕ) (q : Numbers) → SoundPort n q → SoundPort n (withSioerr x q)
+sioerr-set n x q = port-set n Sioerr x q (λ e. omega (arith, e))
 
-    go : (eqb w a ≡ true) ⊎ (either (eqb w b) (either (eqb w c) (either (eqb w c) false)) ≡ true) → (w ≡ a) ⊎ ((w ≡ b) ⊎ (w ≡ c))
-    go (inl e) = inl (eqb-true w a e)
-    go (inr e) = inr (next (either-out (eqb w b) (either (eqb w c) (either (eqb w c) false)) e))
+-- a sum that restarts is 0
+sum-0 : (n : ℕ) (q : Numbers) → SoundPort n q → sum (withSum 0 q) ≡ 0
+sum-0 n q (size, same) = getD-set-same q Sum 0 0 (omega (arith, size))
 
-listed : (w a b c : ℕ) (x y : Bool)
-    → pick x (member (pick y (pos w) (negsuc (0x8000 + 0x8000 - suc w))) (pos a ∷ pos b ∷ pos c ∷ pos c ∷ [])) false ≡ true → (w ≡ a) ⊎ ((w ≡ b) ⊎ (w ≡ c))
-unfolding member
-listed w a b c false y h = absurd (false≢true h)
-listed w a b c true false h = absurd (false≢true h)
-listed w a b c true true h = one-of w a b c h
+-- ---- a plant and a port, for a protocol n
+abbrev SoundCore : ℕ → Core → Type 0
+SoundCore n k = Fits (k .port) (k .plant) × SoundPort n (k .port)
 
-mode-one : (p : Plant) (w : ℕ) → allowed p MODE w ≡ true → Within 1 3 w
-unfolding allowed allowedAt lineAt rows allows twos
-mode-one p w h = go (listed w 1 2 3 (ltb w 0x10000) (ltb w 0x8000) h)
-  where
-    go : (w ≡ 1) ⊎ ((w ≡ 2) ⊎ (w ≡ 3)) → Within 1 3 w
-    go (inl e) = (omega (arith, e), omega (arith, e))
-    go (inr (inl e)) = (omega (arith, e), omega (arith, e))
-    go (inr (inr e)) = (omega (arith, e), omega (arith, e))
-
-scmd-one : (p : Plant) (w : ℕ) → allowed p SCMD w ≡ true → Command w
-unfolding allowed allowedAt lineAt rows allows twos
-scmd-one p w h = listed w 0 129 257 (ltb w 0x10000) (ltb w 0x8000) h
-
--- ---- THE LAW: a number that is right at its name keeps all four
--- what the number set at a name must be
-abbrev Right : ℕ → ℕ → Type 0
-Right i v = (i ≡ MbAdr → Within 1 247 v) × (i ≡ MODE → Within 1 3 v) × (i ≡ SCMD → Command v) × (i ≡ Station → Within 1 247 v)
-
--- the number at the name k, once that at i is v: past the end of the plant nothing is set
-at-name : (Q : ℕ → Type 0) (p : Plant) (i k v : ℕ) → Q (getD p k 0) → (i ≡ k → Q v) → Q (getD (set p i v) k 0)
-at-name Q p i k v keep right = go (eqb i k) (ltb k (length p)) refl refl
-  where
-    go : (same there : Bool) → eqb i k ≡ same → ltb k (length p) ≡ there → Q (getD (set p i v) k 0)
-    go false there e t = rw (getD-set-other p i k v 0 (λ r. eqb-false i k e (sym r))) keep
-    go true true e t = rw (eqb-true i k e, getD-set-same p k v 0 (ltb-true k (length p) t)) (right (eqb-true i k e))
-    go true false e t = rw (eqb-true i k e, set-out p k v (ltb-false k (length p) t)) keep
-
-set-keeps : (p : Plant) (i v : ℕ) → Allowed p → Right i v → Allowed (set p i v)
-set-keeps p i v keep (r0, r1, r2, r3) =
-    record {
-      address = at-name (Within 1 247) p i MbAdr v (keep .address) r0;
-      mode = at-name (Within 1 3) p i MODE v (keep .mode) r1;
-      scmd = at-name Command p i SCMD v (keep .scmd) r2;
-      station = at-name (Within 1 247) p i Station v (keep .station) r3;
-    }
-
--- at any other name, any number is right
-abbrev named : ℕ → Bool
-named i = either (eqb i MbAdr) (either (eqb i MODE) (either (eqb i SCMD) (eqb i Station)))
-
-other : (i v : ℕ) → named i ≡ false → Right i v
-other i v e = (λ h. absurd (no h refl), λ h. absurd (no h refl), λ h. absurd (no h refl), λ h. absurd (no h refl))
-  where
-    no : {k : ℕ} → i ≡ k → named k ≡ true → ⊥
-    no h y = not-both y (sym (ap named h) ∙ e)
-
-other-keeps : (p : Plant) (i v : ℕ) → Allowed p → named i ≡ false → Allowed (set p i v)
-other-keeps p i v keep e = set-keeps p i v keep (other i v e)
-
--- "SCMD becomes 0"
-scmd-keeps : (p : Plant) → Allowed p → Allowed (withScmd 0 p)
-scmd-keeps p keep = set-keeps p SCMD 0 keep (λ h. absurd (omega (arith, h)), λ h. absurd (omega (arith, h)), λ _. inl refl, λ h. absurd (omega (arith, h)))
-
--- ---- a write
-follows-keep : (row : ℕ) (p : Plant) → Allowed p → Allowed (followed row p)
-unfolding followed
-follows-keep row p keep = pick-both Allowed (eqb row Mode) (λ _. other-keeps p Setpoint 0 keep refl) (λ _. pick-both Allowed (eqb row MODE) (λ _. scmd-keeps p keep) (λ _. keep))
-
-module _ (p : Plant) (keep : Allowed p) (row w : ℕ) where
-  applied-keeps : allowed p row w ≡ true → Allowed (applied row w p)
-  unfolding applied
-  applied-keeps can =
-      pick-both Allowed (ltb SCMD row) (λ _. keep)
-      (λ l. pick-both Allowed (eqb (getD p row 0) w) (λ _. stored l) (λ _. follows-keep row (set p row w) (stored l)))
-    where
-      at : (k : ℕ) → row ≡ k → allowed p k w ≡ true
-      at k e = sym (ap (λ (i : ℕ). allowed p i w) e) ∙ can
-
-      stored : ltb SCMD row ≡ false → Allowed (set p row w)
-      stored l =
-          set-keeps p row w keep
-          (λ e. mb-adr p w (at MbAdr e), λ e. mode-one p w (at MODE e), λ e. scmd-one p w (at SCMD e), λ e. absurd (omega (arith, e, ltb-false SCMD row l)))
-
-  written-keeps : Allowed (written p row w .plant)
-  unfolding written permitOf
-  written-keeps =
-      pick-both After (readOnly row) (λ _. keep)
-      (λ _. pick-both After (not (allowed p row w)) (λ _. keep)
-      (λ can. pick-both After (flagStands p) (λ _. keep) (λ _. pick-both After (initRunning p row) (λ _. keep)
-      (λ _. pick-both After (not (permitted p row w)) (λ _. keep) (λ _. applied-keeps (not-false (allowed p row w) can))))))
-    where
-      After : Permit → Type 0
-      After x = Allowed (after x p)
+-- beside a sum of 0 any sound plant fits
+restarts : (n : ℕ) (k : Core) → SoundPlant (k .plant) → SoundPort n (k .port) → SoundCore n (Events.summed 0 k)
+restarts n k plant port = ((plant, λ _. sum-0 n (k .port) port), sum-set n 0 (k .port) port)
 
 -- ---- a message served, by either protocol
-module _ (p : Plant) (keep : Allowed p) (q : Numbers) where
-  abbrev Serves : Served → Type 0
-  Serves s = Allowed (s .plant)
+-- what it leaves
+abbrev leftBy : Served → Core
+leftBy s = record { port = portAfter (s .answer) (s .port); plant = s .plant }
+
+module _ (n : ℕ) (p : Plant) (q : Numbers) (old : SoundCore n (record { port = q; plant = p })) where
+  abbrev Leaves : Served → Type 0
+  Leaves s = SoundCore n (leftBy s)
+
+  -- the sum restarts, and nothing else changes
+  again : SoundCore n (record { port = withSum 0 q; plant = p })
+  again = restarts n (record { port = q; plant = p }) (old .0 .0) (old .1)
+
+  -- SioErr is zeroed, too, beside a plant without 14
+  zeroed : (x : Plant) → SoundPlant x → SoundCore n (record { port = withSum 0 (withSioerr 0 q); plant = x })
+  zeroed x plant = restarts n (record { port = withSioerr 0 q; plant = x }) plant (sioerr-set n 0 q (old .1))
+
+  -- outcome 1 leaves the sum as it was, and any other restarts it
+  kept-leaves : (a : Answer) → Leaves (Serving.keeping p q a)
+  kept-leaves (Answers.Told row word) = again
+  kept-leaves (Answers.Written change) = again
+  kept-leaves Answers.NotOurs = old
+  kept-leaves (Answers.Refused refusal) = again
 
   -- a read clears flags
-  told-keeps : (row : Row) → Serves (toldServed p q row)
-  unfolding toldServed told acknowledged without14
-  told-keeps row =
-      pick-both Tells (eqb (row .0) Inv-St-ack) (λ _. other-keeps p Flags _ keep refl)
-      (λ _. pick-both Tells (eqb (row .0) Inv-St) (λ _. keep) (λ _. pick-both Tells (eqb (row .0) SioErr) (λ _. other-keeps p Flags _ keep refl) (λ _. keep)))
+  told-leaves : (row : Row) → Leaves (toldServed p q row)
+  unfolding toldServed told
+  told-leaves row =
+      pick-both Tells (eqb (row .0) Inv-St-ack) (λ _. (acknowledged-keeps (withSum 0 q) p (again .0), again .1))
+      (λ _. pick-both Tells (eqb (row .0) Inv-St) (λ _. again)
+      (λ _. pick-both Tells (eqb (row .0) SioErr) (λ _. zeroed (without14 p) (without14-keeps q p (old .0) .0)) (λ _. again)))
     where
       Tells : Told → Type 0
-      Tells t = Allowed (t .plant)
+      Tells t = SoundCore n (record { port = withSum 0 (t .port); plant = t .plant })
 
-  wrote-keeps : (row w : ℕ) → Serves (wroteServed p q row w)
-  unfolding wroteServed
-  wrote-keeps row w = written-keeps p keep row w
+  -- a refusal changes nothing else, and what is not refused is right
+  wrote-leaves : (row w : ℕ) → Leaves (wroteServed p q row w)
+  unfolding wroteServed written permitOf
+  wrote-leaves row w =
+      pick-both After (readOnly row) (λ _. again)
+      (λ _. pick-both After (not (allowed p row w)) (λ _. again)
+      (λ can. pick-both After (flagStands p) (λ _. again)
+      (λ calm. pick-both After (Refusals.initRunning p row) (λ _. again)
+      (λ _. pick-both After (not (permitted p row w)) (λ _. again)
+      (λ may. (applied-keeps (withSum 0 q) (sum-0 n q (old .1)) p (again .0) row w (not-false (allowed p row w) can) calm (not-false (permitted p row w) may), again .1))))))
+    where
+      After : Permit → Type 0
+      After x = Leaves (record { plant = after x p; port = q; answer = Serving.permitted x })
 
-  stop-keeps : Allowed (stopped p)
-  unfolding stopped without14
-  stop-keeps = scmd-keeps _ (other-keeps p Flags _ keep refl)
+  -- so every message does
+  nfo-leaves : (m : Message) → Leaves (NfoServe.served p q m)
+  nfo-leaves = nfo-each Leaves p q kept-leaves told-leaves wrote-leaves (λ row w. zeroed (stopped p) (stopped-keeps q p (old .0) .0))
 
-  nfo-keeps : (m : Message) → Serves (Nfo.served p q m)
-  nfo-keeps = nfo-each Serves p q (λ _. keep) told-keeps wrote-keeps (λ row w. stop-keeps)
+  modbus-leaves : (a : ℕ) (u : List ℕ) → Leaves (Modbus.served p q a u)
+  modbus-leaves = modbus-each Leaves p q kept-leaves told-leaves wrote-leaves
 
-  modbus-keeps : (a : ℕ) (u : List ℕ) → Serves (Modbus.served p q a u)
-  modbus-keeps = modbus-each Serves p q (λ _. keep) told-keeps wrote-keeps
+-- ---- what is pending
+-- nothing is
+none-pending : (c : Card) → Sized (c .port .pending) → held (c .port .pending) ≡ [] → SoundPending c
+none-pending c size none =
+    record { sized = size; nfo = λ _. rw none (empty-viable nfo nfo-lawful); rtu = λ _. none; ascii = λ _. rw none (empty-viable ascii ascii-lawful) }
+
+-- what was, at a port of the same protocol
+same-pending : (c : Card) (k : Core) → protocol (k .port) ≡ protocolOf c → SoundPending c → SoundPending (withCore k c)
+same-pending c k same old = record { sized = old .sized; nfo = λ e. old .nfo (sym same ∙ e); rtu = λ e. old .rtu (sym same ∙ e); ascii = λ e. old .ascii (sym same ∙ e) }
+
+-- a beginning is, of the port's protocol
+nfo-pending : (c : Card) (x : Pending) → protocolOf c ≡ 0 → Sized x → nfo .viable (held x) ≡ true → SoundPending (withPending x c)
+nfo-pending c x speaks size begun = record { sized = size; nfo = λ _. begun; rtu = λ e. absurd (omega (arith, speaks, e)); ascii = λ e. absurd (omega (arith, speaks, e)) }
+
+ascii-pending : (c : Card) (x : Pending) → protocolOf c ≡ 2 → Sized x → ascii .viable (held x) ≡ true → SoundPending (withPending x c)
+ascii-pending c x speaks size begun = record { sized = size; nfo = λ e. absurd (omega (arith, speaks, e)); rtu = λ e. absurd (omega (arith, speaks, e)); ascii = λ _. begun }
+
+-- ---- a card of its parts, after a sound one of the same protocol
+sound : (c d : Card) → Sound c → SoundCore (protocolOf c) (coreOf d) → SoundPending d → Sound d
+sound c d old ((plant, sum), (numbers, same)) pending = record { plant = plant; pending = pending; numbers = numbers; protocol = rw same (old .protocol); sum = sum }
+
+-- the parts of a sound card
+coreIn : (c : Card) → Sound c → SoundCore (protocolOf c) (coreOf c)
+coreIn c old = ((old .plant, old .sum), (old .numbers, refl))
+
+-- what is pending stays
+core-keeps : (c : Card) (k : Core) → Sound c → SoundCore (protocolOf c) k → Sound (withCore k c)
+core-keeps c k old core = sound c (withCore k c) old core (same-pending c k (core .1 .1) (old .pending))
+
+-- the plant alone changes
+plant-keeps : (change : Plant → Plant) → ((q : Numbers) (p : Plant) → Fits q p → Fits q (change p)) → (c : Card) → Sound c → Sound (State.withPlant (change (c .plant)) c)
+plant-keeps change keeps c old =
+    core-keeps c (record { port = c .port .numbers; plant = change (c .plant) }) old (keeps (c .port .numbers) (c .plant) (old .plant, old .sum), coreIn c old .1)
 
 -- ---- the calls
-abbrev Leaves : Received → Type 0
-Leaves r = Addressed (r .card)
+module _ (c : Card) (old : Sound c) where
+  abbrev n : ℕ
+  n = protocolOf c
 
-stream-keeps : (S : Stream) (c : Card) → Addressed c → ((h : Pending) → Allowed (S .served c h .plant)) → (bytes : List ℕ) (room : ℕ) → Leaves (streamed S c bytes room)
-unfolding waiting cardAfter
-stream-keeps S c keep serves bytes room =
-    pick-both Leaves (ltb room 19) (λ _. keep)
-    (λ _. pick-both Leaves (scanFrom (S .feeding) (c .port .pending) 0 bytes .taken) (λ _. serves (scanFrom (S .feeding) (c .port .pending) 0 bytes .pending)) (λ _. keep))
+  abbrev Serves : Served → Type 0
+  Serves s = SoundCore n (leftBy s)
 
-rtu-keeps : (c : Card) → Addressed c → (frame : List ℕ) (room : ℕ) → Leaves (rtuReceived c frame room)
-unfolding rtuReceived cardAfter exchanged
-rtu-keeps c keep frame room =
-    pick-both Leaves (ltb room 19) (λ _. keep)
-    (λ _. pick-both Leaves (frameHolds frame) (λ _. modbus-keeps (c .plant) keep (c .port .numbers) (addressIn frame) (unitIn frame)) (λ _. keep))
+  abbrev Keeps : Received → Type 0
+  Keeps r = Sound (r .card)
 
-receive-keeps : (c : Card) (bytes : List ℕ) (room : ℕ) → Addressed c → Leaves (received c bytes room)
-unfolding received nfoReceived asciiReceived exchanged
-receive-keeps c bytes room keep =
-    pick-both Leaves (eqb (protocolOf c) 1) (λ _. rtu-keeps c keep bytes room)
-    (λ _. pick-both Leaves (eqb (protocolOf c) 2)
-    (λ _. stream-keeps asciiStream c keep (λ h. modbus-keeps (c .plant) keep (c .port .numbers) _ _) bytes room)
-    (λ _. stream-keeps nfoStream c keep (λ h. nfo-keeps (c .plant) keep (c .port .numbers) _) bytes room))
+  -- a message served on this card
+  nfo-serves : (m : Message) → Serves (NfoServe.served (c .plant) (c .port .numbers) m)
+  nfo-serves = nfo-leaves n (c .plant) (c .port .numbers) (coreIn c old)
+
+  modbus-serves : (a : ℕ) (u : List ℕ) → Serves (exchanged (c .plant) (c .port .numbers) a u .served)
+  unfolding exchanged
+  modbus-serves = modbus-leaves n (c .plant) (c .port .numbers) (coreIn c old)
+
+  -- "what is pending after a taken message is empty"
+  after-keeps : (x : Pending) (s : Served) → Sized x → Serves s → Sound (cardAfter x s)
+  unfolding cardAfter
+  after-keeps x s size left = sound c (cardAfter x s) old left (none-pending (cardAfter x s) (sized-emptied x size) (held-emptied x))
+
+  module _ (bytes : List ℕ) (room : ℕ) where
+    -- a scan takes a message, or leaves a beginning
+    stream-keeps : (F : Format) (S : Stream) → Lawful F → Follows F (S .feeding) → F .viable (held (c .port .pending)) ≡ true
+        → ((x : Pending) → Sized x → F .viable (held x) ≡ true → SoundPending (withPending x c)) → ((x : Pending) → Serves (S .served c x)) → Keeps (streamed S c bytes room)
+    unfolding waiting
+    stream-keeps F S L W begun waits serves =
+        let scan : Scan = scanFrom (S .feeding) (c .port .pending) 0 bytes in
+        let size : Sized (scan .pending) = scan-sized F L (S .feeding) W bytes (c .port .pending) 0 (old .pending .sized) in
+        let left = scan-leaves F L (S .feeding) W bytes (c .port .pending) 0 (old .pending .sized) begun in
+        pick-both Keeps (ltb room replyLeast) (λ _. old)
+        (λ _. pick-both Keeps (scan .taken) (λ _. after-keeps (scan .pending) (S .served c (scan .pending)) size (serves (scan .pending)))
+        (λ e. sound c (withPending (scan .pending) c) old (coreIn c old) (waits (scan .pending) size (left .1 e))))
+
+    -- a frame is taken, or changes nothing
+    rtu-keeps : Keeps (rtuReceived c bytes room)
+    unfolding rtuReceived
+    rtu-keeps =
+        pick-both Keeps (ltb room replyLeast) (λ _. old)
+        (λ _. pick-both Keeps (frameHolds bytes) (λ _. after-keeps (c .port .pending) _ (old .pending .sized) (modbus-serves (addressIn bytes) (unitIn bytes))) (λ _. old))
+
+    -- a stream by its format
+    ascii-keeps : n ≡ 2 → Keeps (asciiReceived c bytes room)
+    unfolding asciiReceived
+    ascii-keeps e = stream-keeps ascii asciiStream ascii-lawful ascii-follows (old .pending .ascii e) (λ x. ascii-pending c x e) (λ x. modbus-serves _ _)
+
+    nfo-keeps : n ≡ 0 → Keeps (nfoReceived c bytes room)
+    unfolding nfoReceived
+    nfo-keeps e = stream-keeps nfo nfoStream nfo-lawful nfo-follows (old .pending .nfo e) (λ x. nfo-pending c x e) (λ x. nfo-serves _)
+
+    -- by the number in the port
+    receive-keeps : Keeps (received c bytes room)
+    unfolding received
+    receive-keeps =
+        pick-both Keeps (eqb n 1) (λ _. rtu-keeps)
+        (λ r. pick-both Keeps (eqb n 2) (λ a. ascii-keeps (eqb-true n 2 a)) (λ a. nfo-keeps (omega (arith, eqb-false n 1 r, eqb-false n 2 a, old .protocol))))
 
 -- ---- the host's events
-raised-flag : (mask : ℕ) (p : Plant) → Allowed p → Allowed (flagRaised mask p)
-unfolding flagRaised
-raised-flag mask p keep = scmd-keeps _ (other-keeps p Flags _ keep refl)
+-- of the plant alone
+raise-keeps : (n : ℕ) (c : Card) → Sound c → Sound (Events.faultRaised n c .card)
+unfolding Events.faultRaised Events.eventOn
+raise-keeps n = plant-keeps (λ p. raised n p .plant) (λ q. raised-keeps q n)
 
-raise-keeps : (n : ℕ) (c : Card) → Addressed c → Addressed (Events.faultRaised n c .card)
-unfolding Events.faultRaised Events.eventOn raised
-raise-keeps n c keep = pick-both (λ (e : Event). Allowed (e .plant)) (isFault n) (λ _. other-keeps _ Causes _ (raised-flag _ (c .plant) keep) refl) (λ _. keep)
+end-keeps : (n : ℕ) (c : Card) → Sound c → Sound (Events.causeEnded n c .card)
+unfolding Events.causeEnded Events.eventOn
+end-keeps n = plant-keeps (λ p. ended n p .plant) (λ q. ended-keeps q n)
 
-end-keeps : (n : ℕ) (c : Card) → Addressed c → Addressed (Events.causeEnded n c .card)
-unfolding Events.causeEnded Events.eventOn ended
-end-keeps n c keep = pick-both (λ (e : Event). Allowed (e .plant)) (isFault n) (λ _. other-keeps (c .plant) Causes _ keep refl) (λ _. keep)
+din1-keeps : (active : Bool) (c : Card) → Sound c → Sound (Events.din1Set active c .card)
+unfolding Events.din1Set
+din1-keeps active = plant-keeps (withActive active) (λ q. active-keeps q active)
 
-din1-keeps : (active : Bool) (c : Card) → Addressed c → Addressed (Events.din1Set active c .card)
-unfolding Events.din1Set withActive
-din1-keeps true c keep = other-keeps (c .plant) DIN1 1 keep refl
-din1-keeps false c keep = scmd-keeps _ (other-keeps (c .plant) DIN1 0 keep refl)
+measure-keeps : (measured : Measured) (c : Card) → Sound c → Sound (Events.measuredSet measured c .card)
+unfolding Events.measuredSet
+measure-keeps measured = plant-keeps (withMeasured measured) (λ q. measured-keeps q measured)
 
-measure-keeps : (m : Measured) (c : Card) → Addressed c → Addressed (Events.measuredSet m c .card)
-unfolding Events.measuredSet withMeasured
-measure-keeps (Frq w) c keep = other-keeps (c .plant) FrqAct w keep refl
-measure-keeps (Rms w) c keep = other-keeps (c .plant) I-rms w keep refl
-measure-keeps (Optime w) c keep = other-keeps (c .plant) OpTime w keep refl
+-- of the port: SioErr changes, and the sum does not
+fault-leaves : (n bit : ℕ) (k : Core) → SoundCore n k → SoundCore n (Events.portFaulted bit k)
+unfolding Events.portFaulted
+fault-leaves n bit k (fits, port) =
+    let then = fault-keeps (k .port) (k .plant) fits in
+    ((then .0, λ z. getD-set-other (k .port) Sioerr Sum _ 0 (λ e. omega (arith, e)) ∙ then .1 z), sioerr-set n _ (k .port) port)
 
-fault-keeps : (bit : ℕ) (k : Core) → Allowed (k .plant) → Allowed (Events.portFaulted bit k .plant)
-unfolding Events.portFaulted portFault
-fault-keeps bit k keep = pick-both Allowed (eqb (mode (k .plant)) 3) (λ _. raised-flag _ (k .plant) keep) (λ _. keep)
-
-parity-keeps : (c : Card) → Addressed c → Addressed (Events.parityTold c .card)
+parity-keeps : (c : Card) → Sound c → Sound (Events.parityTold c .card)
 unfolding Events.parityTold
-parity-keeps c keep = fault-keeps 2 (coreOf c) keep
+parity-keeps c old = core-keeps c _ old (fault-leaves (protocolOf c) 2 (coreOf c) (coreIn c old))
 
-count-keeps : (limit n : ℕ) (k : Core) → Allowed (k .plant) → Allowed (Events.counted limit n k .plant)
+-- "While SioTot is 0 the sum is 0": where it counts, SioTot is not 0
+count-leaves : (n tenths : ℕ) (k : Core) → SoundCore n k → SoundCore n (Events.counted (getD (k .plant) SioTot 0) tenths k)
 unfolding Events.counted
-count-keeps limit n k keep =
-    pick-both Holds (eqb limit 0) (λ _. keep) (λ _. pick-both Holds (ltb limit (sum (k .port) + n)) (λ _. fault-keeps 1 (Events.summed 0 k) keep) (λ _. keep))
-  where
-    Holds : Core → Type 0
-    Holds k = Allowed (k .plant)
+count-leaves n tenths k (fits, port) =
+    pick-both (SoundCore n) (eqb (getD (k .plant) SioTot 0) 0) (λ _. restarts n k (fits .0) port)
+    (λ o. pick-both (SoundCore n) (ltb (getD (k .plant) SioTot 0) (sum (k .port) + tenths)) (λ _. fault-leaves n 1 (Events.summed 0 k) (restarts n k (fits .0) port))
+    (λ _. ((fits .0, λ z. absurd (eqb-false (getD (k .plant) SioTot 0) 0 o z)), sum-set n _ (k .port) port)))
 
-tick-keeps : (n : ℕ) (c : Card) → Addressed c → Addressed (Events.ticked n c .card)
+-- "12: host event number not allowed" changes nothing
+tick-keeps : (tenths : ℕ) (c : Card) → Sound c → Sound (Events.ticked tenths c .card)
 unfolding Events.ticked Events.tickedIn
-tick-keeps n c keep = pick-both (λ (t : Events.Ticked). Allowed (t .core .plant)) (either (ltb n 1) (ltb 250 n)) (λ _. keep) (λ _. count-keeps _ n (coreOf c) keep)
+tick-keeps tenths c old =
+    pick-both (λ (t : Events.Ticked). Sound (withCore (t .core) c)) (either (ltb tenths 1) (ltb 250 tenths)) (λ _. old)
+    (λ _. core-keeps c _ old (count-leaves (protocolOf c) tenths (coreOf c) (coreIn c old)))
 
--- ---- start and restart
-started-keeps : (protocol : Protocols.Protocol) → Addressed (State.started protocol)
-unfolding State.started Plants.started startWords rows
-started-keeps protocol = record { address = (omega arith, omega arith); mode = (omega arith, omega arith); scmd = inl refl; station = (omega arith, omega arith) }
-
-restarted-keeps : (c : Card) → Addressed c → Addressed (State.restarted c)
-unfolding State.restarted Plants.restarted
-restarted-keeps c keep = set-keeps _ MODE 1 (scmd-keeps _ (other-keeps _ Flags _ (set-keeps (c .plant) Station _ keep ours) refl)) mode-1
+-- ---- start and restart: nothing is pending, and the sum is 0
+start-keeps : (protocol : Protocols.Protocol) → Sound (State.started protocol)
+unfolding State.started
+start-keeps protocol =
+    record { plant = started-sound; pending = none-pending (State.started protocol) sized-empty held-empty; numbers = refl; protocol = most protocol; sum = λ _. refl }
   where
-    -- what MbAdr holds is right for our own address
-    ours : Right Station (getD (c .plant) MbAdr 0)
-    ours = (λ h. absurd (omega (arith, h)), λ h. absurd (omega (arith, h)), λ h. absurd (omega (arith, h)), λ _. keep .address)
+    most : (protocol : Protocols.Protocol) → State.protocolNumber protocol ≤ 2
+    most Nfo = omega arith
+    most Rtu = omega arith
+    most Ascii = omega arith
 
-    mode-1 : Right MODE 1
-    mode-1 = (λ h. absurd (omega (arith, h)), λ _. (omega arith, omega arith), λ h. absurd (omega (arith, h)), λ h. absurd (omega (arith, h)))
+restart-keeps : (c : Card) → Sound c → Sound (State.restarted c)
+unfolding State.restarted
+restart-keeps c old =
+    record {
+      plant = restarted-keeps (c .port .numbers) (c .plant) (coreIn c old .0) .0;
+      pending = none-pending (State.restarted c) (sized-emptied (c .port .pending) (old .pending .sized)) (held-emptied (c .port .pending));
+      numbers = refl;
+      protocol = old .protocol;
+      sum = λ _. refl;
+    }
 
 pub kept : Kept
 kept =
     record {
-      start = started-keeps;
-      restart = restarted-keeps;
+      start = start-keeps;
+      restart = restart-keeps;
       raise = raise-keeps;
       end = end-keeps;
       din1 = din1-keeps;
       measure = measure-keeps;
       parity = parity-keeps;
       tick = tick-keeps;
-      receive = receive-keeps;
+      receive = λ c bytes room old. receive-keeps c old bytes room;
     }

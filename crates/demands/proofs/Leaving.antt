@@ -7,6 +7,7 @@ use Prim.Native.Nat.{ℕ, _+_, _≤_}
 use native.Mathlib.Omega.{arith}
 use lib.Dec.{eqb, ltb}
 use lib.ListN.{length, getD}
+use Rattle.base.specs.Buffers.{replyLeast}
 use Rattle.base.specs.Choice.{pick}
 use Rattle.base.proofs.Tests.{pick-both}
 use Rattle.port.specs.Port.{Numbers}
@@ -30,8 +31,7 @@ use Rattle.nfo_service.specs.Reply as NfoReply
 use Rattle.card.specs.State.{protocolOf, cardSum}
 use Rattle.card.specs.declared.state.Card.{Card}
 use Rattle.rtu.specs.Rtu.{frameHolds, addressIn, unitIn}
-use Rattle.ascii.specs.Ascii.{bytesIn}
-use Rattle.ascii.specs.Ascii.{unitAmong}
+use Rattle.ascii.specs.Ascii.{bytesIn, unitAmong}
 use Rattle.modbus_service.specs.Serve as Modbus
 use Rattle.modbus_service.specs.Reply as ModbusReply
 use Rattle.modbus_service.specs.declared.Reply.{Reply}
@@ -45,7 +45,7 @@ use Rattle.ascii_port.specs.Receive.{replyText, asciiStream, asciiReceived}
 use Rattle.receive.specs.Receive.{received}
 use Rattle.demands.specs.Orders.{scanOf}
 use Rattle.demands.specs.Demand1.{Leaves}
-use Rattle.demands.specs.Demand3.{besides}
+use Rattle.demands.specs.Calls.{besides}
 use Rattle.demands.proofs.Serving.{nfo-each}
 use Rattle.demands.proofs.Numbered.{servedNumber}
 
@@ -71,7 +71,7 @@ unfolding ModbusReply.replied ModbusReply.repliedBy
 modbus-silent a u x e = rw e (pick-both (λ (y : Reply). y ≡ Nothing) (Modbus.toAll a) (λ _. refl) (λ _. refl))
 
 -- ---- the cases of a call
-refusal-within : (x : Refusal) → (2 ≤ refusalNumber x) × (refusalNumber x ≤ 9)
+pub refusal-within : (x : Refusal) → (2 ≤ refusalNumber x) × (refusalNumber x ≤ 9)
 refusal-within Refusals.NoRow = (omega arith, omega arith)
 refusal-within Refusals.ReadOnly = (omega arith, omega arith)
 refusal-within Refusals.NotAllowed = (omega arith, omega arith)
@@ -178,7 +178,7 @@ module _ (c : Card) (bytes : List ℕ) (room : ℕ) where
       → Leaves c (length bytes) (streamed S c bytes room)
   stream-leaves S keeps silent =
       let scan : Scan = scanOf (S .feeding) c bytes in
-      pick-both Q (ltb room 19) (λ _. short-leaves c (length bytes))
+      pick-both Q (ltb room replyLeast) (λ _. short-leaves c (length bytes))
       (λ _. pick-both Q (scan .taken)
       (λ _. taken-leaves c (length bytes) (scan .pending) (scan .used) (S .reply c (scan .pending)) (S .served c (scan .pending)) (keeps (scan .pending)) (silent (scan .pending)))
       (λ e. waiting-leaves c (length bytes) scan (scan-all (S .feeding) bytes (c .port .pending) 0 e ∙ omega arith)))
@@ -186,7 +186,7 @@ module _ (c : Card) (bytes : List ℕ) (room : ℕ) where
   rtu-leaves : Leaves c (length bytes) (Rtu.rtuReceived c bytes room)
   unfolding Rtu.rtuReceived ModbusReply.exchanged
   rtu-leaves =
-      pick-both Q (ltb room 19) (λ _. short-leaves c (length bytes))
+      pick-both Q (ltb room replyLeast) (λ _. short-leaves c (length bytes))
       (λ _. pick-both Q (frameHolds bytes)
       (λ _. taken-leaves c (length bytes) (c .port .pending) (length bytes) (Rtu.frameOf (addressIn bytes) (Rtu.exchangeOn c bytes .reply)) (Rtu.exchangeOn c bytes .served)
       (served-keeps (c .plant) (c .port .numbers) (addressIn bytes) (unitIn bytes))

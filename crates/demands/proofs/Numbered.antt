@@ -6,6 +6,7 @@ use mathlib.Core.List.{List, [], _∷_, _++_}
 use Prim.Native.Nat.{ℕ}
 use lib.Dec.{eqb, ltb}
 use lib.ListN.{length, getD}
+use Rattle.base.specs.Buffers.{replyLeast}
 use Rattle.base.specs.Choice.{pick, both}
 use Rattle.base.specs.Order.{Line, when, firstOf, saying}
 use Rattle.base.proofs.Tests.{pick-yes, pick-no}
@@ -38,8 +39,7 @@ use Rattle.modbus.specs.Request.{requestOf}
 use Rattle.modbus.specs.declared.requests.Request.{Request}
 use Rattle.modbus.specs.declared.requests.Request.the-variants.{Read, One, Many, Malformed, Unknown}
 use Rattle.rtu.specs.Rtu.{frameHolds, addressIn, unitIn}
-use Rattle.ascii.specs.Ascii.{bytesIn}
-use Rattle.ascii.specs.Ascii.{unitAmong}
+use Rattle.ascii.specs.Ascii.{bytesIn, unitAmong}
 use Rattle.modbus_service.specs.Serve as Modbus
 use Rattle.modbus_service.specs.Reply.{exchanged}
 use Rattle.turn.specs.Turn.{Received, tooShort, waiting}
@@ -199,6 +199,6 @@ module _ (c : Card) (bytes : List ℕ) (room : ℕ) where
   pub received-number : numberIn (received c bytes room) ≡ firstOf (saying outcomeNumber (callOrder c bytes room)) 0
   unfolding received Rtu.rtuReceived asciiReceived nfoReceived
   received-number =
-      by-protocol (ltb room 19) (eqb (protocolOf c) 1) (eqb (protocolOf c) 2) (tooShort c) _ _ _
+      by-protocol (ltb room replyLeast) (eqb (protocolOf c) 1) (eqb (protocolOf c) 2) (tooShort c) _ _ _
       (rtuOrder c bytes) (asciiOrder c (scanOf (asciiStream .feeding) c bytes)) (serialOrder c (scanOf (nfoStream .feeding) c bytes)) refl
       rtu-number (ascii-number (scanOf (asciiStream .feeding) c bytes)) (serial-number (scanOf (nfoStream .feeding) c bytes))

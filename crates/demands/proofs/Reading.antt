@@ -21,8 +21,7 @@ use Rattle.card.specs.State.{withPending}
 use Rattle.card.specs.declared.state.Card.{Card}
 use Rattle.turn.specs.Turn.{Received, cardAfter}
 use Rattle.turn.specs.Stream.{Stream}
-use Rattle.demands.specs.Calls.{Protocol, Course, adding, message, servedAll}
-use Rattle.demands.specs.Demand3.{besides}
+use Rattle.demands.specs.Calls.{Wire, Course, adding, message, servedAll, besides}
 use Rattle.demands.proofs.Course.{one, course}
 
 -- ---- a byte of the reading
@@ -68,7 +67,7 @@ alike-add r t k l h a e =
 
 -- a format with its laws, a protocol of it, and the stream call that follows it: a message that is held is served as its bytes are, and by what the card
 -- holds besides the bytes pending
-module _ (P : Protocol) (S : Stream) (L : Lawful (P .format)) (W : Follows (P .format) (S .feeding))
+module _ (P : Wire) (S : Stream) (L : Lawful (P .format)) (W : Follows (P .format) (S .feeding))
     (takes : (c : Card) (q : Pending) → Sized q → P .format .formed (S .feeding .message q) ≡ true
     → (S .served c q ≡ P .served c (S .feeding .message q)) × (S .reply c q ≡ P .reply c (S .feeding .message q)))
     (alone : (c : Card) (m : List ℕ) → (P .served c m ≡ P .served (besides c) m) × (P .reply c m ≡ P .reply (besides c) m)) where

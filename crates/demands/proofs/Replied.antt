@@ -1,37 +1,66 @@
--- What the card replies over Modbus is one of the answers that a master reads. Assumes nothing.
-use mathlib.Core.Path.{_≡_, refl, subst}
+-- What the card replies over Modbus is one of the answers that a master reads, and is heard as what was answered. Assumes nothing.
+use mathlib.Core.Path.{_≡_, refl, sym, ap, subst, _∙_}
 use mathlib.Core.Logic.{inl, inr}
-use mathlib.Core.List.{List}
-use Prim.Native.Nat.{ℕ, _-_}
+use mathlib.Core.Bool.{Bool, true, false}
+use mathlib.Core.List.{List, [], _∷_}
+use Prim.Native.Nat.{ℕ, _-_, _/_, _%_, _≤_}
 use native.Mathlib.Omega.{arith}
+use borrow.Author.Tests.{le-ltb}
 use lib.Dec.{eqb}
-use lib.ListN.{length}
-use Rattle.base.specs.Bytes.{Bytes}
+use lib.ListN.{length, getD}
+use Rattle.base.specs.Buffers.{replyLeast}
+use Rattle.base.specs.Choice.{pick}
+use Rattle.base.specs.Bytes.{Bytes, same}
 use Rattle.base.proofs.Lists.{below-drop, below-take}
 use Rattle.base.proofs.Tests.{pick-both}
 use Rattle.table.specs.Table.{lineAt}
 use Rattle.table.specs.declared.labels.Row.{Row}
+use Rattle.table.specs.declared.labels.Register.{Register}
 use Rattle.port.specs.Port.{Numbers}
-use Rattle.drive.specs.Plant.{Plant}
+use Rattle.drive.specs.Plant.{Plant, station}
 use Rattle.answers.specs.declared.Answer.{Answer}
 use Rattle.answers.specs.declared.Answer.the-variants as Answers
 use Rattle.answers.specs.declared.Refusal.{Refusal}
 use Rattle.answers.specs.declared.Refusal.the-variants as Refusals
+use Rattle.answers.specs.Answer.{refusalNumber, answerNumber}
+use Rattle.card.specs.State.{protocolOf}
+use Rattle.card.specs.declared.state.Card.{Card}
+use Rattle.card.specs.declared.outcome.Outcome.the-variants as Outcomes
 use Rattle.modbus.specs.Request.{requestOf}
+use Rattle.modbus.specs.Answer.{unitOf}
 use Rattle.modbus.specs.declared.requests.Request.{Request}
 use Rattle.modbus.specs.declared.requests.Request.the-variants.{Read, One, Many, Malformed, Unknown}
 use Rattle.modbus.specs.declared.replies.Answer as Units
+use Rattle.modbus.specs.declared.replies.Answer.the-variants.{Word, Long, Exception}
 use Rattle.modbus_service.specs.Serve.{toAll, served}
-use Rattle.modbus_service.specs.Reply.{exceptionOf, registersTold, headOf, answered, repliedBy, replied, exchanged}
+use Rattle.modbus_service.specs.Reply.{exceptionOf, registersTold, headOf, repliedBy, replied, exchanged, sentBy}
+use Rattle.modbus_service.specs.Reply as Said
 use Rattle.modbus_service.specs.declared.Reply.{Reply}
 use Rattle.modbus_service.specs.declared.Reply.the-variants.{Nothing, Data}
 use Rattle.modbus.proofs.Units.{InWidth}
-use Rattle.ascii.specs.Ascii.{bytesIn}
-use Rattle.ascii.specs.Ascii.{unitAmong}
+use Rattle.rtu.specs.Rtu.{frameHolds, addressIn, unitIn, rtuOf}
+use Rattle.ascii.specs.Ascii.{textOf, bytesIn, formed, asciiOf, unitAmong}
 use Rattle.ascii_scan.proofs.Parsed.{decoded-below}
 use Rattle.modbus_service.proofs.Replies.{ReplyIn, reply-in}
-use Rattle.modbus_service.proofs.Fitting.{Made, made, Fits, served-fits}
-use Rattle.master_reply.specs.Told.{Within, IsAnswer}
+use Rattle.modbus_service.proofs.Fitting.{Made, made, Fits, served-fits, from-us}
+use Rattle.turn.specs.Turn.{Received}
+use Rattle.rtu_port.specs.Receive as Rtu
+use Rattle.ascii_port.specs.Receive as Ascii
+use Rattle.receive.specs.Receive.{received}
+use Rattle.receive.proofs.Laws.{by-rtu}
+use Rattle.master_reply.specs.Reply.{replyNumber, heard}
+use Rattle.master_reply.specs.Told.{Within, IsAnswer, replyTo, wordsTold}
+use Rattle.master_reply.specs.declared.Heard.{Heard}
+use Rattle.master_reply.specs.declared.Reply.the-variants as Replies
+use Rattle.master_rtu.specs.Heard.{rtuHeard}
+use Rattle.master_rtu.proofs.RoundTrip as Frames
+use Rattle.master_ascii.specs.Heard.{asciiHeard}
+use Rattle.master_ascii.proofs.RoundTrip as Texts
+use Rattle.demands.specs.Calls.{modbusAscii}
+use Rattle.demands.specs.Kept.{Sound}
+use Rattle.demands.specs.Demand2.{exceptionAt, functionIn, modbusBack, Ears, rtu, ascii, AnswerHeard, AnswersFirst}
+use Rattle.demands.proofs.OneCall.{ascii-takes}
+use Rattle.demands.proofs.Ears.{one-answer, bad-not, told-not-1, refused-not-1, unanswered, answered}
 
 -- ---- so what is replied is one of the answers
 abbrev ReplyIs : Reply → Type 0
@@ -52,7 +81,7 @@ registers : (f : ℕ) (row : Row) (w : ℕ) → Within 3 4 f → IsAnswer (regis
 unfolding registersTold
 registers f row w h = pick-both IsAnswer (eqb (lineAt (row .0) .registers) 2) (λ _. h) (λ _. h)
 
-answered-is : (q : Request) (x : Answer) → Made q → Fits q x → ReplyIs (answered (headOf q) x)
+answered-is : (q : Request) (x : Answer) → Made q → Fits q x → ReplyIs (Said.answered (headOf q) x)
 answered-is q Answers.NotOurs m h = tt
 answered-is q (Answers.Refused refusal) m h = code refusal
 answered-is (Read f r n) (Answers.Told row w) m h = registers f row w m
@@ -71,14 +100,142 @@ module _ (p : Plant) (q : Numbers) (a : ℕ) (u : List ℕ) where
   unfolding exchanged replied repliedBy
   reply-is = pick-both ReplyIs (toAll a) (λ _. tt) (λ _. answered-is (requestOf u) (served p q a u .answer) (made u) (served-fits p q a u))
 
-  pub answers : (x : Units.Answer) → exchanged p q a u .reply ≡ Data x → IsAnswer x
+  answers : (x : Units.Answer) → exchanged p q a u .reply ≡ Data x → IsAnswer x
   answers x e = subst ReplyIs e reply-is
+
+  -- from our own address, which is 1 to 247
+  ours : (x : Units.Answer) → Within 1 247 (station p) → exchanged p q a u .reply ≡ Data x → Within 1 247 a
+  ours x h e = let s : a ≡ station p = from-us p q a u x e in (omega (arith, s, h .0), omega (arith, s, h .1))
 
 -- with its numbers in their widths, where the unit came as a message's bytes
 unit-bytes : (m : List ℕ) → Bytes (unitAmong (bytesIn m))
 unfolding unitAmong
 unit-bytes m = below-drop 256 1 _ (below-take 256 (length (bytesIn m) - 1) (bytesIn m) (decoded-below m))
 
-pub widths : (p : Plant) (q : Numbers) (a : ℕ) (m : List ℕ) (x : Units.Answer) → exchanged p q a (unitAmong (bytesIn m)) .reply ≡ Data x → InWidth x
+widths : (p : Plant) (q : Numbers) (a : ℕ) (m : List ℕ) (x : Units.Answer) → exchanged p q a (unitAmong (bytesIn m)) .reply ≡ Data x → InWidth x
 unfolding exchanged
 widths p q a m x e = subst ReplyIn e (reply-in a (unitAmong (bytesIn m)) _ (unit-bytes m))
+
+-- ---- what is heard of the reply's unit is what is to be heard of the answer
+abbrev Back : ℕ → Request → Answer → Units.Answer → Type 0
+Back a r x y = heard (replyTo a y) (wordsTold y) ≡ modbusBack a r x
+
+registers-back : (a f : ℕ) (first : Register) (n : ℕ) (row : Row) (w : ℕ) → Back a (Read f first n) (Answers.Told row w) (registersTold f row w)
+unfolding registersTold
+registers-back a f first n row w = go (eqb (lineAt (row .0) .registers) 2)
+  where
+    go : (t : Bool)
+        → let y : Units.Answer = pick t (Long f (w % 0x100000000)) (Word f (w % 0x10000)) in
+        let ws : List ℕ = pick t (w % 0x100000000 % 0x10000 ∷ w % 0x100000000 / 0x10000 ∷ []) (w % 0x10000 ∷ []) in
+        heard (replyTo a y) (wordsTold y) ≡ heard (Replies.Data a f (length ws)) ws
+    go true = refl
+    go false = refl
+
+refused-back : (a : ℕ) (r : Request) (x : Refusal) → Back a r (Answers.Refused x) (Exception (headOf r .function) (exceptionOf x))
+refused-back a r x = rw (function-same r, exception-same x)
+  where
+    function-same : (r : Request) → headOf r .function ≡ functionIn r
+    function-same (Read f first n) = refl
+    function-same (One register w) = refl
+    function-same (Many first n place) = refl
+    function-same (Malformed f) = refl
+    function-same (Unknown f) = refl
+
+    exception-same : (x : Refusal) → exceptionOf x ≡ exceptionAt (refusalNumber x)
+    exception-same Refusals.NoRow = refl
+    exception-same Refusals.ReadOnly = refl
+    exception-same Refusals.NotAllowed = refl
+    exception-same Refusals.FlagStands = refl
+    exception-same Refusals.Running = refl
+    exception-same Refusals.NotPermitted = refl
+    exception-same Refusals.Malformed = refl
+    exception-same Refusals.NoFunction = refl
+
+-- the lines: a master's reader that reads what its line makes of an address and of each unit that the card answers
+module _ (made-of : ℕ → List ℕ → List ℕ) (E : Ears Heard) (m : List ℕ) (a : ℕ) (u : List ℕ) (silence : replyNumber (E .hear [] .reply) ≡ 14)
+    (all : E .toAll m ≡ eqb a 0) (back : (x : Answer) → E .back m x ≡ modbusBack a (requestOf u) x) where
+  abbrev number : Heard → ℕ
+  number h = replyNumber (h .reply)
+
+  module _ (one : eqb a 0 ≡ false) where
+    -- a unit that the card answers is heard as the answer
+    by-unit : (x : Answer) (y : Units.Answer) → (x ≡ Answers.NotOurs → ⊥) → number (modbusBack a (requestOf u) x) ≡ 0 → E .hear (made-of a (unitOf y)) ≡ heard (replyTo a y) (wordsTold y)
+        → Back a (requestOf u) x y → AnswerHeard E m x (made-of a (unitOf y))
+    by-unit x y ours zero e b = answered E m x (made-of a (unitOf y)) number silence (ap number (back x) ∙ zero) (all ∙ one) ours (e ∙ b ∙ sym (back x))
+
+    by-request : (r : Request) → requestOf u ≡ r → (x : Answer) → Fits r x → ((y : Units.Answer) → Said.answered (headOf r) x ≡ Data y → E .hear (made-of a (unitOf y)) ≡ heard (replyTo a y) (wordsTold y))
+        → AnswerHeard E m x (sentBy made-of a (Said.answered (headOf r) x))
+    by-request r k Answers.NotOurs fits hears = unanswered E m Answers.NotOurs [] (inr refl) refl
+    by-request r k (Answers.Refused x) fits hears =
+        by-unit (Answers.Refused x) _ (λ e. refused-not-1 x (ap answerNumber e)) refl (hears _ refl) (rw k (refused-back a r x))
+    by-request (Read f first n) k (Answers.Told row w) fits hears =
+        by-unit (Answers.Told row w) _ (λ e. told-not-1 (ap answerNumber e)) refl (hears _ refl) (rw k (registers-back a f first n row w))
+    by-request (One register w) k (Answers.Written change) fits hears =
+        by-unit (Answers.Written change) _ (λ e. told-not-1 (ap answerNumber e)) (rw k) (hears _ refl) (rw k)
+    by-request (Many first n place) k (Answers.Written change) fits hears =
+        by-unit (Answers.Written change) _ (λ e. told-not-1 (ap answerNumber e)) (rw k) (hears _ refl) (rw k)
+    by-request (Read f first n) k (Answers.Written change) fits hears = absurd fits
+    by-request (One register w) k (Answers.Told row v) fits hears = absurd fits
+    by-request (Many first n place) k (Answers.Told row v) fits hears = absurd fits
+    by-request (Malformed f) k (Answers.Told row v) fits hears = absurd fits
+    by-request (Malformed f) k (Answers.Written change) fits hears = absurd fits
+    by-request (Unknown f) k (Answers.Told row v) fits hears = absurd fits
+    by-request (Unknown f) k (Answers.Written change) fits hears = absurd fits
+
+  -- a unit's reply, on any plant
+  pub unit-heard : (p : Plant) (q : Numbers) → ((y : Units.Answer) → exchanged p q a u .reply ≡ Data y → E .hear (made-of a (unitOf y)) ≡ heard (replyTo a y) (wordsTold y))
+      → AnswerHeard E m (served p q a u .answer) (sentBy made-of a (exchanged p q a u .reply))
+  unfolding exchanged replied repliedBy
+  unit-heard p q hears = go (eqb a 0) refl hears
+    where
+      x : Answer
+      x = served p q a u .answer
+
+      go : (t : Bool) → eqb a 0 ≡ t
+          → ((y : Units.Answer) → pick t Nothing (Said.answered (headOf (requestOf u)) (served p q a u .answer)) ≡ Data y → E .hear (made-of a (unitOf y)) ≡ heard (replyTo a y) (wordsTold y))
+          → AnswerHeard E m (served p q a u .answer) (sentBy made-of a (pick t Nothing (Said.answered (headOf (requestOf u)) (served p q a u .answer))))
+      go true e hears = unanswered E m (served p q a u .answer) [] (inl (all ∙ e)) refl
+      go false e hears = by-request e (requestOf u) refl (served p q a u .answer) (served-fits p q a u) hears
+
+-- ---- a call's reply
+rtu-silence : replyNumber (rtuHeard [] .reply) ≡ 14
+unfolding rtuHeard frameHolds
+rtu-silence = refl
+
+ascii-silence : replyNumber (asciiHeard [] .reply) ≡ 14
+unfolding asciiHeard formed textOf same
+ascii-silence = refl
+
+pub rtu-answers : (c : Card) → Sound c → protocolOf c ≡ 1 → (f : List ℕ) (room : ℕ) → replyLeast ≤ room → (x : Answer)
+    → received c f room .outcome ≡ Outcomes.Served x → AnswerHeard rtu f x (received c f room .reply)
+unfolding Rtu.rtuReceived exchanged
+rtu-answers c sound p f room h x e = go (frameHolds f) (ap (λ (r : Received). r .outcome) is) (ap (λ (r : Received). r .reply) is)
+  where
+    is : received c f room ≡ pick (frameHolds f) (Rtu.taken c f) (Rtu.spoilt c (length f))
+    is = by-rtu c f room p ∙ simp (le-ltb room replyLeast h)
+
+    back : (y : Units.Answer) → Rtu.exchangeOn c f .reply ≡ Data y → rtuHeard (rtuOf (addressIn f) (unitOf y)) ≡ heard (replyTo (addressIn f) y) (wordsTold y)
+    back y k =
+        Frames.answer-back (addressIn f) y (ours (c .plant) (c .port .numbers) (addressIn f) (unitIn f) y (sound .plant .station) k)
+        (answers (c .plant) (c .port .numbers) (addressIn f) (unitIn f) y k)
+
+    go : (t : Bool) → received c f room .outcome ≡ pick t (Rtu.taken c f) (Rtu.spoilt c (length f)) .outcome
+        → received c f room .reply ≡ pick t (Rtu.taken c f) (Rtu.spoilt c (length f)) .reply → AnswerHeard rtu f x (received c f room .reply)
+    go true o r =
+        let s : x ≡ Rtu.exchangeOn c f .served .answer = one-answer x _ _ e o in
+        subst (AnswerHeard rtu f x) (sym r)
+        (subst (λ (z : Answer). AnswerHeard rtu f z (sentBy rtuOf (addressIn f) (Rtu.exchangeOn c f .reply))) (sym s)
+        (unit-heard rtuOf rtu f (addressIn f) (unitIn f) rtu-silence refl (λ z. refl) (c .plant) (c .port .numbers) back))
+    go false o r = absurd (bad-not x (sym e ∙ o))
+
+pub ascii-answers : AnswersFirst modbusAscii ascii
+unfolding exchanged
+ascii-answers c sound p bytes room h t first x e =
+    let k = ascii-takes c sound p bytes room h t first in
+    let m : List ℕ = t .bytes in
+    let s : x ≡ Ascii.exchangeOn c (bytesIn m) .served .answer = one-answer x _ _ e (k .outcome) in
+    subst (AnswerHeard ascii m x) (sym (k .reply))
+    (subst (λ (z : Answer). AnswerHeard ascii m z (Ascii.replyOn c (bytesIn m))) (sym s)
+    (unit-heard asciiOf ascii m (getD (bytesIn m) 0 0) (unitAmong (bytesIn m)) ascii-silence refl (λ z. refl) (c .plant) (c .port .numbers)
+    (λ y q. Texts.answer-back (getD (bytesIn m) 0 0) y (ours (c .plant) (c .port .numbers) (getD (bytesIn m) 0 0) (unitAmong (bytesIn m)) y (sound .plant .station) q)
+    (answers (c .plant) (c .port .numbers) (getD (bytesIn m) 0 0) (unitAmong (bytesIn m)) y q) (widths (c .plant) (c .port .numbers) (getD (bytesIn m) 0 0) m y q))))

@@ -1,14 +1,14 @@
 -- What holds of each of the four things that a message can come to, holds of every message of either protocol: nothing is done, a row is told, a row is written,
 -- or the broadcast stop. So a message leaves the port's protocol as it is. Assumes nothing.
 use mathlib.Core.Path.{_≡_, refl}
-use mathlib.Core.Bool.{not}
+use mathlib.Core.Bool.{Bool, true, false, not}
 use mathlib.Core.List.{List, [], _∷_}
 use Prim.Native.Nat.{ℕ}
 use native.Mathlib.Omega.{arith}
 use lib.Dec.{eqb}
 use lib.Seq.{getD-set-other}
 use Rattle.base.specs.Choice.{both}
-use Rattle.base.specs.Order.{Line, firstOf, saying}
+use Rattle.base.specs.Order.{when, firstOf, saying}
 use Rattle.base.proofs.Tests.{pick-both}
 use Rattle.table.specs.Names.{Inv-St-ack, Inv-St, SioErr}
 use Rattle.table.specs.declared.labels.Row.{Row}
@@ -16,6 +16,9 @@ use Rattle.port.specs.Port.{Numbers, ProtocolAt, Sum, Sioerr, protocol, withSum
 use Rattle.drive.specs.Plant.{Plant, station}
 use Rattle.answers.specs.declared.Answer.{Answer}
 use Rattle.answers.specs.declared.Answer.the-variants as Answers
+use Rattle.answers.specs.declared.Refusal.{Refusal}
+use Rattle.answers.specs.declared.Refusal.the-variants as Refusals
+use Rattle.permit.specs.Refusals.{readOnly}
 use Rattle.reading.specs.Read.{Told, told}
 use Rattle.service.specs.Serving.{Served, isNone, theRow, keeping, toldServed, wroteServed}
 use Rattle.nfo_parts.specs.declared.message.Message.{Message}
@@ -28,42 +31,74 @@ use Rattle.modbus.specs.declared.requests.Request.the-variants.{Read, One, Many
 use Rattle.modbus_service.specs.Serve as Modbus
 use Rattle.turn.specs.Turn.{portAfter}
 
+-- what a message can come to: outcome 1 or a refusal, and then nothing changes; a row told; a row written, or refused; over NFO serial the broadcast stop
+pub data Came (p : Plant) (q : Numbers) : (nfo : Bool) → Served → Type 0 where
+  not-ours : {nfo : Bool} → Came p q nfo (keeping p q Answers.NotOurs)
+  refused : {nfo : Bool} (x : Refusal) → Came p q nfo (keeping p q (Answers.Refused x))
+  told-row : {nfo : Bool} (row : Row) → Came p q nfo (toldServed p q row)
+  wrote-row : {nfo : Bool} (row w : ℕ) → Came p q nfo (wroteServed p q row w)
+  stop : (adr : ℕ) (row : Row) (w : ℕ) → Nfo.stops p adr (row .0) w ≡ true → Came p q true (Nfo.stopServed p q row w)
+
+module _ (p : Plant) (q : Numbers) where
+  abbrev Serial : Served → Type 0
+  Serial s = Came p q true s
+
+  named : (reaches : Bool) (none : Bool) (x : Served) → Serial x
+      → Serial (firstOf (saying (keeping p q) (when (not reaches) Answers.NotOurs ∷ when none (Answers.Refused Refusals.NoRow) ∷ [])) x)
+  named reaches none x k = pick-both Serial (not reaches) (λ _. not-ours) (λ _. pick-both Serial none (λ _. refused Refusals.NoRow) (λ _. k))
+
+  pub nfo-came : (m : Message) → Came p q true (Nfo.served p q m)
+  unfolding Nfo.served Nfo.enquiryServed Nfo.selectServed Nfo.rowSelected
+  nfo-came (Enquiry adr e) = named (Nfo.toUs p adr) (isNone (Nfo.rowNamed e)) (toldServed p q (theRow (Nfo.rowNamed e))) (told-row (theRow (Nfo.rowNamed e)))
+  nfo-came (Select adr e v) =
+      let row : Row = theRow (Nfo.rowNamed e) in
+      named (Nfo.reachesUs p adr) (isNone (Nfo.rowNamed e)) (Nfo.rowSelected p q adr row v)
+      (pick-both Serial (readOnly (row .0)) (λ _. refused Refusals.ReadOnly)
+      (λ _. pick-both Serial (Nfo.notHex v) (λ _. refused Refusals.Malformed)
+      (λ _. pick-both Serial (Nfo.stops p adr (row .0) (Nfo.theWord v)) (λ t. stop adr row (Nfo.theWord v) t) (λ _. wrote-row (row .0) (Nfo.theWord v)))))
+
+  task-came : (row : Row) (r : Request) (u : List ℕ) → Came p q false (Modbus.done p q (Modbus.taskAt row r u))
+  unfolding Modbus.done
+  task-came row (Read f register n) u = told-row row
+  task-came row (One register w) u = wrote-row (row .0) w
+  task-came row (Many register n place) u = wrote-row (row .0) (longAt u (place .from))
+  task-came row (Malformed f) u = told-row row
+  task-came row (Unknown f) u = told-row row
+
+  request-came : (a : ℕ) (r : Request) (u : List ℕ) → Came p q false (Modbus.done p q (Modbus.taskOf (station p) a r u))
+  unfolding Modbus.taskOf Modbus.done
+  request-came a r u =
+      pick-both (λ t. Came p q false (Modbus.done p q t)) (not (Modbus.reachesUs (station p) a)) (λ _. not-ours)
+      (λ _. pick-both (λ t. Came p q false (Modbus.done p q t)) (Modbus.isUnknown r) (λ _. refused Refusals.NoFunction)
+      (λ _. pick-both (λ t. Came p q false (Modbus.done p q t)) (both (Modbus.toAll a) (Modbus.asksRead r)) (λ _. not-ours)
+      (λ _. pick-both (λ t. Came p q false (Modbus.done p q t)) (Modbus.isMalformed r) (λ _. refused Refusals.Malformed)
+      (λ _. pick-both (λ t. Came p q false (Modbus.done p q t)) (isNone (Modbus.rowAsked r)) (λ _. refused Refusals.NoRow) (λ _. task-came (theRow (Modbus.rowAsked r)) r u)))))
+
+  pub modbus-came : (a : ℕ) (u : List ℕ) → Came p q false (Modbus.served p q a u)
+  unfolding Modbus.served
+  modbus-came a u = request-came a (requestOf u) u
+
+-- so what holds of each of these holds of every message
 module _ (Q : Served → Type 0) (p : Plant) (q : Numbers) (kept : (a : Answer) → Q (keeping p q a)) (tells : (row : Row) → Q (toldServed p q row))
     (writes : (row w : ℕ) → Q (wroteServed p q row w)) where
-  -- a line that applies, or what is past the lines
-  first : (ls : List (Line Answer)) (x : Served) → Q x → Q (firstOf (saying (keeping p q) ls) x)
-  first [] x k = k
-  first (l ∷ ls) x k = pick-both Q (l .test) (λ _. kept (l .answer)) (λ _. first ls x k)
-
   pub nfo-each : ((row : Row) (w : ℕ) → Q (Nfo.stopServed p q row w)) → (m : Message) → Q (Nfo.served p q m)
-  unfolding Nfo.served Nfo.enquiryServed Nfo.selectServed Nfo.rowSelected
-  nfo-each stops (Enquiry adr e) = first (Nfo.enquiryLines p adr (Nfo.rowNamed e)) (toldServed p q (theRow (Nfo.rowNamed e))) (tells (theRow (Nfo.rowNamed e)))
-  nfo-each stops (Select adr e v) =
-      let row : Row = theRow (Nfo.rowNamed e) in
-      first (Nfo.nameLines p adr (Nfo.rowNamed e)) (Nfo.rowSelected p q adr row v)
-      (first (Nfo.rowLines row v) _
-      (pick-both Q (Nfo.stops p adr (row .0) (Nfo.theWord v)) (λ _. stops row (Nfo.theWord v)) (λ _. writes (row .0) (Nfo.theWord v))))
-
-  task-each : (row : Row) (r : Request) (u : List ℕ) → Q (Modbus.done p q (Modbus.taskAt row r u))
-  unfolding Modbus.done
-  task-each row (Read f register n) u = tells row
-  task-each row (One register w) u = writes (row .0) w
-  task-each row (Many register n place) u = writes (row .0) (longAt u (place .from))
-  task-each row (Malformed f) u = tells row
-  task-each row (Unknown f) u = tells row
-
-  request-each : (a : ℕ) (r : Request) (u : List ℕ) → Q (Modbus.done p q (Modbus.taskOf (station p) a r u))
-  unfolding Modbus.taskOf Modbus.done
-  request-each a r u =
-      pick-both (λ t. Q (Modbus.done p q t)) (not (Modbus.reachesUs (station p) a)) (λ _. kept _)
-      (λ _. pick-both (λ t. Q (Modbus.done p q t)) (Modbus.isUnknown r) (λ _. kept _)
-      (λ _. pick-both (λ t. Q (Modbus.done p q t)) (both (Modbus.toAll a) (Modbus.asksRead r)) (λ _. kept _)
-      (λ _. pick-both (λ t. Q (Modbus.done p q t)) (Modbus.isMalformed r) (λ _. kept _)
-      (λ _. pick-both (λ t. Q (Modbus.done p q t)) (isNone (Modbus.rowAsked r)) (λ _. kept _) (λ _. task-each (theRow (Modbus.rowAsked r)) r u)))))
+  nfo-each stops m = go (nfo-came p q m)
+    where
+      go : {s : Served} → Came p q true s → Q s
+      go not-ours = kept Answers.NotOurs
+      go (refused x) = kept (Answers.Refused x)
+      go (told-row row) = tells row
+      go (wrote-row row w) = writes row w
+      go (stop adr row w t) = stops row w
 
   pub modbus-each : (a : ℕ) (u : List ℕ) → Q (Modbus.served p q a u)
-  unfolding Modbus.served
-  modbus-each a u = request-each a (requestOf u) u
+  modbus-each a u = go (modbus-came p q a u)
+    where
+      go : {s : Served} → Came p q false s → Q s
+      go not-ours = kept Answers.NotOurs
+      go (refused x) = kept (Answers.Refused x)
+      go (told-row row) = tells row
+      go (wrote-row row w) = writes row w
 
 -- ---- the port's protocol
 sum-speaks : (x : ℕ) (q : Numbers) → protocol (withSum x q) ≡ protocol q

@@ -11,9 +11,9 @@ use Rattle.stream.specs.Automaton.{feedAll, feedOn, join}
 use Rattle.stream.specs.Theorem.{StreamTheorem}
 use Rattle.stream.proofs.Automaton.{feed-append}
 use Rattle.stream.proofs.Reading.{empty-viable}
-use Rattle.demands.specs.Calls.{Protocol, servedAll}
-use Rattle.demands.specs.Demand2.{TakenAfter, ServedAlone, Read}
-use Rattle.demands.specs.Demand3.{Same, Demand3}
+use Rattle.demands.specs.Calls.{Wire, servedAll}
+use Rattle.demands.specs.Demand2.{TakenAfter, ServedAlone, ReadAs}
+use Rattle.demands.specs.Demand3.{Same, Streams}
 
 module _ (F : Format) (L : Lawful F) (T : StreamTheorem F) where
   -- from a place where nothing is pending
@@ -41,12 +41,12 @@ module _ (F : Format) (L : Lawful F) (T : StreamTheorem F) where
       let it : Reads F 0 (m ++ []) (taking 0 m (waiting (0 + length m) [])) = takes m [] w end in
       rw (append-nil m) at it
 
-module _ (P : Protocol) (L : Lawful (P .format)) (D : Demand3 P) (m : List ℕ) (w : P .format .formed m ≡ true) where
+module _ (P : Wire) (L : Lawful (P .format)) (D : Streams P) (m : List ℕ) (w : P .format .formed m ≡ true) where
   alone : ServedAlone P m
   unfolding servedAll
   alone c p none k l =
       let s : Same P c k (taking 0 m (waiting (0 + length m) [])) = D .reading c p none m k l _ (reads-alone (P .format) L (D .theory) m w) in
-      (s .outcomes, s .replies ∙ append-nil (P .reply c m))
+      (s .outcomes, s .replies ∙ append-nil (P .reply c m), s .state)
 
-  pub message-read : Read P m
+  pub message-read : ReadAs P m
   message-read = (taken-after (P .format) L (D .theory) m w, alone)

@@ -1,64 +1,62 @@
--- A stream on the line: the calls that a caller makes of it, and the messages of it served one after another. Assumes nothing.
+-- What the statements speak of: the calls that a caller makes of a stream, the two protocols that come as one, and the messages of a stream served one after
+-- another. Assumes nothing.
 use mathlib.Core.Path.{_≡_}
 use mathlib.Core.List.{List, [], _∷_, _++_}
-use Prim.Native.Nat.{ℕ, _≤_}
-use lib.ListN.{drop}
+use Prim.Native.Nat.{ℕ}
 use Rattle.stream.specs.Format.{Format}
+use Rattle.stream.specs.Reading.{Taken, Yield, Reads}
+use Rattle.pending.specs.Held.{empty, held, Sized}
+use Rattle.nfo.specs.Message.{nfo}
+use Rattle.nfo_parts.specs.Parts.{messageOf}
+use Rattle.nfo_service.specs.Reply.{replied}
+use Rattle.ascii.specs.Ascii.{bytesIn, ascii}
 use Rattle.service.specs.Serving.{Served}
-use Rattle.card.specs.State.{protocolOf}
+use Rattle.card.specs.State.{protocolOf, withPending}
 use Rattle.card.specs.declared.state.Card.{Card}
-use Rattle.card.specs.declared.outcome.Outcome.{Outcome}
-use Rattle.card.specs.declared.outcome.Outcome.the-variants as Outcomes
 use Rattle.turn.specs.Turn.{Received, answered}
-use Rattle.receive.specs.Receive.{received}
+use Rattle.nfo_port.specs.Receive.{servedBy}
+use Rattle.ascii_port.specs.Receive.{exchangeOn, replyOn}
+pub use Rattle.receive.specs.Calls.{Course, Calls, over, call, adding, ended}
 
--- what came of a stream: the outcomes of the messages taken, the joined replies, and the card at the end
-pub record Course : Type 0 where
-  pub outcomes : List Outcome
-  pub replies : List ℕ
-  pub card : Card
-
--- the outcome of a message, where one was taken
-abbrev pub outcomeOf : Outcome → List Outcome
-outcomeOf Outcomes.Done = []
-outcomeOf (Outcomes.Served answer) = Outcomes.Served answer ∷ []
-outcomeOf Outcomes.ShortBuffer = []
-outcomeOf Outcomes.BadFrame = []
-outcomeOf Outcomes.NoSuchEvent = []
-outcomeOf Outcomes.NothingTaken = []
-
--- what one call adds in front
-abbrev pub adding : Received → Course → Course
-adding r k = record { outcomes = outcomeOf (r .outcome) ++ k .outcomes; replies = r .reply ++ k .replies; card = k .card }
-
--- nothing comes of no bytes
-abbrev pub ended : Card → Course
-ended c = record { outcomes = []; replies = []; card = c }
-
--- `Calls c s k`: a caller hands the stream s to the card c in scraps, with reply buffers of 19 bytes or more, and k comes of it. "The caller gives the
--- unused rest again first": after a call on the scrap x, what it did not use of x comes before the bytes y that are still to come
-pub data Calls : Card → List ℕ → Course → Type 0 where
-  over : {c : Card} → Calls c [] (ended c)
-  call : {c : Card} (x y : List ℕ) (room : ℕ) {k : Course} → 19 ≤ room
-      → Calls (received c x room .card) (drop (received c x room .used) x ++ y) k
-      → Calls c (x ++ y) (adding (received c x room) k)
-
+-- ---- the two protocols that come as streams
 -- a protocol that comes as a stream: its number in the port, its format, and what a message comes to: what is served, and the reply
-pub record Protocol : Type 0 where
+pub record Wire : Type 0 where
   pub number : ℕ
   pub format : Format
   pub served : Card → List ℕ → Served
   pub reply : Card → List ℕ → List ℕ
 
--- the port is of this protocol
-abbrev pub Speaks : Protocol → Card → Type 0
-Speaks P c = protocolOf c ≡ P .number
+abbrev pub nfoSerial : Wire
+nfoSerial =
+    record { number = 0; format = nfo; served = λ c m. servedBy c (messageOf m); reply = λ c m. replied (messageOf m) (servedBy c (messageOf m) .answer) }
 
+abbrev pub modbusAscii : Wire
+modbusAscii = record { number = 2; format = ascii; served = λ c m. exchangeOn c (bytesIn m) .served; reply = λ c m. replyOn c (bytesIn m) }
+
+-- the port is of this protocol
+abbrev pub Speaks : Wire → Card → Type 0
+Speaks W c = protocolOf c ≡ W .number
+
+-- ---- the bytes pending
+-- "with nothing pending before". (Each array of bytes pending has 512 bytes: its type in the code.)
+abbrev pub NothingPending : Card → Type 0
+NothingPending c = (held (c .port .pending) ≡ []) × Sized (c .port .pending)
+
+-- the card but for the bytes pending
+abbrev pub besides : Card → Card
+besides c = withPending empty c
+
+-- ---- messages
 -- one message of it on a card
-abbrev pub message : Protocol → Card → List ℕ → Received
-message P c m = answered (c .port .pending) 0 (P .served c m) (P .reply c m)
+abbrev pub message : Wire → Card → List ℕ → Received
+message W c m = answered (c .port .pending) 0 (W .served c m) (W .reply c m)
 
 -- the messages served one after another
-unfoldable pub servedAll : Protocol → Card → List (List ℕ) → Course
-servedAll P c [] = ended c
-servedAll P c (m ∷ ms) = adding (message P c m) (servedAll P (message P c m .card) ms)
+unfoldable pub servedAll : Wire → Card → List (List ℕ) → Course
+servedAll W c [] = ended c
+servedAll W c (m ∷ ms) = adding (message W c m) (servedAll W (message W c m .card) ms)
+
+-- the call on these bytes takes the message t first, and the messages ts come after it: so has it the left-to-right reading of what is pending and the bytes
+-- behind it
+abbrev pub TakesFirst : Wire → Card → List ℕ → Taken → Type 0
+TakesFirst W c bytes t = (y : Yield) × (ts : List Taken) × Reads (W .format) 0 (held (c .port .pending) ++ bytes) y × (y .taken ≡ t ∷ ts)

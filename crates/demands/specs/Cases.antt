@@ -1,10 +1,15 @@
--- Document 01's ★ cases, one table, one statement: "Fresh start, address 1, unless said". Assumes nothing.
-use mathlib.Core.List.{List, [], _∷_, _++_}
+-- Document 01's ★ cases and case 9, the errors that it says to rule out, an exchange of RTU, and a 32-bit row written and read back over ASCII: one table, one
+-- statement. "Fresh start, address 1, unless said". Assumes nothing.
+use mathlib.Core.Path.{_≡_}
+use mathlib.Core.List.{List, [], _∷_, _++_, map}
 use Prim.Native.Nat.{ℕ, zero, suc}
 use lib.ListN.{drop}
+use Rattle.base.specs.Buffers.{replyLeast}
+use Rattle.hex.specs.Hex.{hexOf}
 use Rattle.drive.specs.Plant as Plant
 use Rattle.card.specs.declared.state.Card.{Card}
-use Rattle.card.specs.declared.state.Protocol.the-variants.{Nfo, Ascii}
+use Rattle.card.specs.declared.state.Protocol.{Protocol}
+use Rattle.card.specs.declared.state.Protocol.the-variants.{Nfo, Rtu, Ascii}
 use Rattle.card.specs.declared.outcome.Outcome.{Outcome}
 use Rattle.card.specs.declared.outcome.Outcome.the-variants.{Done, Served, ShortBuffer, BadFrame, NoSuchEvent, NothingTaken}
 use Rattle.card.specs.State.{started}
@@ -22,26 +27,26 @@ abbrev pub says : ℕ → List ℕ → Said
 says number reply = record { number = number; reply = reply }
 
 -- what the messages of some bytes say, and the fault flags after them
-pub record Told : Type 0 where
+pub record Shown : Type 0 where
   pub said : List Said
   pub flags : ℕ
 
-abbrev pub telling : List Said → ℕ → Told
-telling said flags = record { said = said; flags = flags }
+abbrev pub showing : List Said → ℕ → Shown
+showing said flags = record { said = said; flags = flags }
 
 -- what a call says, before what the later ones say; nothing, where nothing was taken
-abbrev pub saying : Outcome → List ℕ → Told → Told
+abbrev pub saying : Outcome → List ℕ → Shown → Shown
 saying Done reply later = later
-saying (Served answer) reply later = telling (says (outcomeNumber (Served answer)) reply ∷ later .said) (later .flags)
+saying (Served answer) reply later = showing (says (outcomeNumber (Served answer)) reply ∷ later .said) (later .flags)
 saying ShortBuffer reply later = later
 saying BadFrame reply later = later
 saying NoSuchEvent reply later = later
 saying NothingTaken reply later = later
 
 -- so many calls of `receive`, with a reply buffer of 19 bytes, each on the rest that the one before left
-abbrev pub heard : ℕ → Card → List ℕ → Told
-heard zero c bytes = telling [] (Plant.flags (c .plant))
-heard (suc n) c bytes = let r : Received = received c bytes 19 in saying (r .outcome) (r .reply) (heard n (r .card) (drop (r .used) bytes))
+abbrev pub called : ℕ → Card → List ℕ → Shown
+called zero c bytes = showing [] (Plant.flags (c .plant))
+called (suc n) c bytes = let r : Received = received c bytes replyLeast in saying (r .outcome) (r .reply) (called n (r .card) (drop (r .used) bytes))
 
 -- the ENQUIRY of case 2, without the EOT that it begins with, and with it; its reply
 abbrev pub ask-rest : List ℕ
@@ -52,6 +57,10 @@ ask = 0x04 ∷ ask-rest
 
 abbrev pub accel-50 : List ℕ
 accel-50 = 0x21 ∷ 0x02 ∷ 0x45 ∷ 0x30 ∷ 0x30 ∷ 0x31 ∷ 0x44 ∷ 0x3D ∷ 0x30 ∷ 0x30 ∷ 0x33 ∷ 0x32 ∷ 0x03 ∷ 0x0F ∷ []
+
+-- the same with 0093h
+abbrev pub accel-147 : List ℕ
+accel-147 = 0x21 ∷ 0x02 ∷ 0x45 ∷ 0x30 ∷ 0x30 ∷ 0x31 ∷ 0x44 ∷ 0x3D ∷ 0x30 ∷ 0x30 ∷ 0x39 ∷ 0x33 ∷ 0x03 ∷ 0x04 ∷ []
 
 abbrev pub ack : List ℕ
 ack = 0x21 ∷ 0x06 ∷ []
@@ -72,6 +81,10 @@ r-fix1 = 0x04 ∷ 0x21 ∷ 0x02 ∷ 0x45 ∷ 0x30 ∷ 0x30 ∷ 0x33 ∷ 0x39 ∷
 abbrev pub line : List ℕ → List ℕ
 line digits = 0x3A ∷ digits ++ (0x0D ∷ 0x0A ∷ [])
 
+-- the message of these bytes, the LRC among them, in pairs of hex digits
+abbrev pub spelt : List ℕ → List ℕ
+spelt bytes = line (hexOf bytes)
+
 -- 0103 and 0183, which begin the replies
 abbrev pub read-1 : List ℕ
 read-1 = 0x30 ∷ 0x31 ∷ 0x30 ∷ 0x33 ∷ []
@@ -79,21 +92,24 @@ read-1 = 0x30 ∷ 0x31 ∷ 0x30 ∷ 0x33 ∷ []
 abbrev pub refused-1 : List ℕ
 refused-1 = 0x30 ∷ 0x31 ∷ 0x38 ∷ 0x33 ∷ []
 
--- fault 1 was raised and its cause has ended, so that a read of 02A4h would acknowledge it
-abbrev pub faulted : Card
-faulted = causeEnded 1 (faultRaised 1 (started Ascii) .card) .card
+-- fault 1 was raised and its cause has ended, so that a read of 00E8 or 02A4h would acknowledge it
+abbrev pub faulted : Protocol → Card
+faulted protocol = causeEnded 1 (faultRaised 1 (started protocol) .card) .card
 
 -- ---- the table: the card before, the bytes, and what they tell
 pub record Case : Type 0 where
   pub card : Card
   pub bytes : List ℕ
-  pub right : Told
+  pub right : Shown
 
 abbrev pub case : List ℕ → List Said → Case
-case bytes right = record { card = started Nfo; bytes = bytes; right = telling right 0 }
+case bytes right = record { card = started Nfo; bytes = bytes; right = showing right 0 }
+
+abbrev pub rtu : List ℕ → List Said → Case
+rtu bytes right = record { card = started Rtu; bytes = bytes; right = showing right 0 }
 
 abbrev pub ascii : List ℕ → List Said → Case
-ascii bytes right = record { card = started Ascii; bytes = bytes; right = telling right 0 }
+ascii bytes right = record { card = started Ascii; bytes = bytes; right = showing right 0 }
 
 unfoldable pub cases : List Case
 cases =
@@ -119,8 +135,27 @@ cases =
     (says 2 (line (refused-1 ++ (0x30 ∷ 0x32 ∷ 0x37 ∷ 0x41 ∷ []))) ∷ [])
     -- "`:000302A4000156`: outcome 1, nothing acknowledged": flag 1 stands
     ∷ record {
-      card = faulted;
+      card = faulted Ascii;
       bytes = line (0x30 ∷ 0x30 ∷ 0x30 ∷ 0x33 ∷ 0x30 ∷ 0x32 ∷ 0x41 ∷ 0x34 ∷ 0x30 ∷ 0x30 ∷ 0x30 ∷ 0x31 ∷ 0x35 ∷ 0x36 ∷ []);
-      right = telling (says 1 [] ∷ []) 2;
+      right = showing (says 1 [] ∷ []) 2;
     }
+    -- "Acknowledging a fault on a broadcast read": an ENQUIRY of 00E8 to 95 is outcome 1, and flag 1 stands; "or on 02A5h": a read of it tells 1, and flag 1 stands
+    ∷ record { card = faulted Nfo; bytes = 0x04 ∷ 0x7F ∷ 0x45 ∷ 0x30 ∷ 0x30 ∷ 0x45 ∷ 0x38 ∷ 0x05 ∷ []; right = showing (says 1 [] ∷ []) 2 }
+    ∷ record {
+      card = faulted Ascii;
+      bytes = spelt (0x01 ∷ 0x03 ∷ 0x02 ∷ 0xA5 ∷ 0x00 ∷ 0x01 ∷ 0x54 ∷ []);
+      right = showing (says 0 (spelt (0x01 ∷ 0x03 ∷ 0x02 ∷ 0x00 ∷ 0x01 ∷ 0xF9 ∷ [])) ∷ []) 2;
+    }
+    -- 9: "SELECT Accel 0093h, then case 2": `0 2106`, `0 210245303031443D303039330304`
+    ∷ case (accel ++ (0x30 ∷ 0x30 ∷ 0x39 ∷ 0x33 ∷ 0x03 ∷ 0x04 ∷ ask)) (says 0 ack ∷ says 0 accel-147 ∷ [])
+    -- RTU: MODE is read, with MB's CRC low byte first
+    ∷ rtu (0x01 ∷ 0x03 ∷ 0x02 ∷ 0x94 ∷ 0x00 ∷ 0x01 ∷ 0xC4 ∷ 0x5E ∷ []) (says 0 (0x01 ∷ 0x03 ∷ 0x02 ∷ 0x00 ∷ 0x01 ∷ 0x79 ∷ 0x84 ∷ []) ∷ [])
+    -- ASCII: a 16 of 1000000, F4240h, to SpdScl num, "32-bit values low word first", and a read of it
+    ∷ ascii (spelt (0x01 ∷ 0x10 ∷ 0x07 ∷ 0x0C ∷ 0x00 ∷ 0x02 ∷ 0x04 ∷ 0x42 ∷ 0x40 ∷ 0x00 ∷ 0x0F ∷ 0x45 ∷ []) ++ spelt (0x01 ∷ 0x03 ∷ 0x07 ∷ 0x0C ∷ 0x00 ∷ 0x02 ∷ 0xE7 ∷ []))
+    (says 0 (spelt (0x01 ∷ 0x10 ∷ 0x07 ∷ 0x0C ∷ 0x00 ∷ 0x02 ∷ 0xDA ∷ []))
+    ∷ says 0 (spelt (0x01 ∷ 0x03 ∷ 0x04 ∷ 0x42 ∷ 0x40 ∷ 0x00 ∷ 0x0F ∷ 0x67 ∷ [])) ∷ [])
     ∷ []
+
+-- each comes to what it should, by four calls
+abbrev pub Cases : Type 0
+Cases = map (λ (k : Case). called 4 (k .card) (k .bytes)) cases ≡ map (λ (k : Case). k .right) cases

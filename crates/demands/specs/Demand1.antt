@@ -1,37 +1,35 @@
 -- Demand 1: "No bytes, lengths, numbers or lent buffers can break it or keep it from answering. Each refusal has document 01's number, is given exactly
 -- then, and leaves settings, drive state and reply buffer as 01 says." No public routine asks anything of its arguments, so each answers whatever they are.
--- That the rest holds is `demand-1`, in proofs/Demand1.antt. Assumes nothing.
+-- Assumes nothing.
 use mathlib.Core.Path.{_≡_}
 use mathlib.Core.Logic.{_⊎_, _↔_}
-use mathlib.Core.Bool.{Bool, true, not}
+use mathlib.Core.Bool.{Bool, not}
 use mathlib.Core.List.{List, [], _∷_, _++_}
 use Prim.Native.Nat.{ℕ, _≤_, _+_, _<_}
 use lib.Dec.{ltb}
 use lib.ListN.{length}
-use Rattle.base.specs.Choice.{pick, either}
+use Rattle.base.specs.Choice.{either}
+use Rattle.base.specs.Buffers.{replyLeast}
 use Rattle.base.specs.Order.{when}
 use Rattle.base.specs.Bytes.{Bytes}
-use Rattle.stream.specs.Reading.{Yield, Reads}
+use Rattle.stream.specs.Reading.{Taken, Yield, Reads}
 use Rattle.drive.specs.declared.events.Measured.{Measured}
 use Rattle.drive.specs.Events.{isFault}
-use Rattle.answers.specs.declared.Answer.the-variants as Answers
-use Rattle.answers.specs.declared.Refusal.{Refusal}
-use Rattle.pending.specs.Held.{held, Sized}
-use Rattle.nfo_parts.specs.declared.message.Message.{Message}
+use Rattle.pending.specs.Held.{held}
 use Rattle.nfo_parts.specs.Replies.{replyOf, ackOf, nakOf}
-use Rattle.nfo_service.specs.Serve as Nfo
-use Rattle.nfo_service.specs.Reply as NfoReply
-use Rattle.card.specs.State.{cardSum}
+use Rattle.card.specs.State.{protocolOf, cardSum}
 use Rattle.card.specs.Events.{faultRaised, causeEnded, din1Set, measuredSet, parityTold, ticked}
 use Rattle.card.specs.Outcome.{outcomeNumber}
 use Rattle.card.specs.declared.state.Card.{Card}
 use Rattle.card.specs.declared.events.After.{After}
 use Rattle.card.specs.declared.outcome.Outcome.the-variants.{Done, NoSuchEvent}
-use Rattle.modbus.specs.Request.{requestOf}
-use Rattle.modbus.specs.declared.replies.Answer.the-variants.{Exception}
 use Rattle.rtu.specs.Rtu.{rtuOf}
 use Rattle.ascii.specs.Ascii.{asciiOf}
 use Rattle.master.specs.Sent.{sentNumber, refusals, sentOf, bytesSent}
+use Rattle.master_nfo.specs.Requests.{enquirable, selectable, enquiryOf, selectOf}
+use Rattle.master_request.specs.declared.Ask.{Ask}
+use Rattle.master_request.specs.Ask.{sayable, requestUnit}
+use Rattle.master_request.specs.Said.{Unsayable}
 use Rattle.master_reply.specs.Reply.{replyNumber, registersOf, heard}
 use Rattle.master_reply.specs.Told.{addressOf, replyUnit, IsReply, InWidth, IsMessage}
 use Rattle.master_reply.specs.declared.Reply.{Reply}
@@ -42,14 +40,11 @@ use Rattle.master_nfo.specs.Replies.{readOf}
 use Rattle.master_nfo.specs.Replies as SerialReplies
 use Rattle.master_nfo.specs.declared.replies.Reply as Serial
 use Rattle.master_nfo.specs.declared.replies.Reply.the-variants as Serials
-use Rattle.modbus_service.specs.Serve as Modbus
-use Rattle.modbus_service.specs.Reply as ModbusReply
-use Rattle.modbus_service.specs.declared.Reply.the-variants.{Nothing, Data}
 use Rattle.turn.specs.Turn.{Received}
 use Rattle.receive.specs.Receive.{received}
 use Rattle.demands.specs.Orders.{Gives, callOrder}
-use Rattle.demands.specs.Calls.{Protocol, Speaks}
-use Rattle.demands.specs.Demand3.{nfoSerial, modbusAscii, besides}
+use Rattle.demands.specs.Calls.{Wire, nfoSerial, modbusAscii, Speaks, message, besides, TakesFirst}
+use Rattle.demands.specs.Kept.{Sound}
 
 -- ---- what each number leaves
 abbrev pub numberIn : Received → ℕ
@@ -75,29 +70,38 @@ pub record Leaves (c : Card) (count : ℕ) (r : Received) : Type 0 where
   -- 12 is the host's, 13 and 14 are the master's
   pub listed : (numberIn r ≤ 11) ⊎ (numberIn r ≡ 15)
 
--- "15: nothing taken", exactly where the left-to-right reading of what is pending and the bytes behind it takes none. What is pending could become a
--- message: so it is at start, and after every call by demand 3
-abbrev pub NothingTaken : Protocol → Type 0
-NothingTaken P =
-    (c : Card) → Speaks P c → Sized (c .port .pending) → P .format .viable (held (c .port .pending)) ≡ true → (bytes : List ℕ) (room : ℕ) → 19 ≤ room
-    → (y : Yield) → Reads (P .format) 0 (held (c .port .pending) ++ bytes) y → (numberIn (received c bytes room) ≡ 15) ↔ (y .taken ≡ [])
+-- "15: nothing taken", exactly where the left-to-right reading of what is pending and the bytes behind it takes none
+abbrev pub Only15Then : Wire → Type 0
+Only15Then W =
+    (c : Card) → Sound c → Speaks W c → (bytes : List ℕ) (room : ℕ) → replyLeast ≤ room → (y : Yield) → Reads (W .format) 0 (held (c .port .pending) ++ bytes) y
+    → (numberIn (received c bytes room) ≡ 15) ↔ (y .taken ≡ [])
+
+-- a call that takes the message t: what it hands back is that message's, "what is pending after a taken message is empty", and "fixed by the place where the message
+-- ends": up to its end, less what was pending, the bytes are used
+pub record TakesIt (W : Wire) (c : Card) (t : Taken) (r : Received) : Type 0 where
+  pub outcome : r .outcome ≡ message W c (t .bytes) .outcome
+  pub reply : r .reply ≡ message W c (t .bytes) .reply
+  pub state : besides (r .card) ≡ besides (message W c (t .bytes) .card)
+  pub cleared : Cleared r
+  pub used : length (held (c .port .pending)) + r .used ≡ t .place + length (t .bytes)
+
+abbrev pub TakesTheFirst : Wire → Type 0
+TakesTheFirst W =
+    (c : Card) → Sound c → Speaks W c → (bytes : List ℕ) (room : ℕ) → replyLeast ≤ room → (t : Taken) → TakesFirst W c bytes t → TakesIt W c t (received c bytes room)
 
 pub record Receiving : Type 0 where
   -- "No bytes, lengths, numbers or lent buffers can break it": the bytes used are there, and a reply fits
   pub within : (c : Card) (bytes : List ℕ) (room : ℕ) → (received c bytes room .used ≤ length bytes) × (length (received c bytes room .reply) ≤ room)
   -- "Each refusal has document 01's number, is given exactly then": the first line of the order that applies
   pub number : (c : Card) (bytes : List ℕ) (room n : ℕ) → (numberIn (received c bytes room) ≡ n) ↔ Gives outcomeNumber (callOrder c bytes room) n
-  pub nfo-nothing : NothingTaken nfoSerial
-  pub ascii-nothing : NothingTaken modbusAscii
+  pub nfo-nothing : Only15Then nfoSerial
+  pub ascii-nothing : Only15Then modbusAscii
+  -- "A stream call uses bytes up to the end of the first message taken"; "An RTU call uses all, save at 10"
+  pub nfo-takes : TakesTheFirst nfoSerial
+  pub ascii-takes : TakesTheFirst modbusAscii
+  pub rtu-used : (c : Card) → protocolOf c ≡ 1 → (frame : List ℕ) (room : ℕ) → replyLeast ≤ room → received c frame room .used ≡ length frame
   -- "and leaves settings, drive state and reply buffer as 01 says"
   pub leaves : (c : Card) (bytes : List ℕ) (room : ℕ) → Leaves c (length bytes) (received c bytes room)
-
--- the columns of the reply: NAK, or the exception of "Modbus exception". "A refused broadcast gets no reply"
-pub record Replying : Type 0 where
-  pub nfo : (m : Message) (x : Refusal) → NfoReply.replied m (Answers.Refused x) ≡ pick (Nfo.toAll (NfoReply.adrIn m)) [] (nakOf (NfoReply.adrIn m))
-  pub modbus : (address : ℕ) (unit : List ℕ) (x : Refusal)
-      → ModbusReply.replied address unit (Answers.Refused x)
-      ≡ pick (Modbus.toAll address) Nothing (Data (Exception (ModbusReply.headOf (requestOf unit) .function) (ModbusReply.exceptionOf x)))
 
 -- ---- the host's events
 -- "12: host event number not allowed", exactly where the test says so; and then nothing changes
@@ -121,6 +125,15 @@ pub record Writing : Type 0 where
   pub number : (sayable : Bool) (message : List ℕ) (room n : ℕ)
       → (sentNumber (sentOf sayable message room) ≡ n) ↔ Gives sentNumber (refusals sayable message room) n
   pub unsent : (sayable : Bool) (message : List ℕ) (room : ℕ) → (sentNumber (sentOf sayable message room) ≡ 0 → ⊥) → bytesSent sayable message room ≡ []
+
+-- "13 (addresses above 95 or 247, a broadcast read, counts outside the limits)", exactly then
+pub record Unsaid : Type 0 where
+  -- "95 is broadcast"
+  pub enquiry : (address e room : ℕ) → (sentNumber (sentOf (enquirable address) (enquiryOf address e) room) ≡ 13) ↔ (95 ≤ address)
+  pub select : (address e word room : ℕ) → (sentNumber (sentOf (selectable address) (selectOf address e word) room) ≡ 13) ↔ (95 < address)
+  -- over Modbus, in the messages that its line makes of an address and a unit
+  pub modbus : (made : ℕ → List ℕ → List ℕ) (address : ℕ) (ask : Ask) (registers : List ℕ) (room : ℕ)
+      → (sentNumber (sentOf (sayable address ask (length registers)) (made address (requestUnit ask registers)) room) ≡ 13) ↔ Unsayable address ask (length registers)
 
 -- ---- the master's readers
 -- "Else 14, and only then": the number is 0 where the bytes are a reply's, and 14 where they are not
@@ -147,5 +160,9 @@ pub record Hearing : Type 0 where
   pub rtu : Hears rtuOf rtuHeard
   pub ascii : Hears asciiOf asciiHeard
 
-abbrev pub Demand1 : Type 0
-Demand1 = Receiving × Replying × Events × Writing × Hearing
+pub record Demand1 : Type 0 where
+  pub receiving : Receiving
+  pub events : Events
+  pub writing : Writing
+  pub unsaid : Unsaid
+  pub hearing : Hearing

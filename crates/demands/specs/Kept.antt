@@ -1,45 +1,99 @@
--- What each routine keeps of a card: our own address, MODE and SCMD are numbers of document 01's. So what demand 2 asks of our own address holds of every card
--- that the routines make. That it holds is `kept`, in proofs/Kept.antt. Assumes nothing.
+-- What every routine keeps of a card. Start makes such a card, and no event and no bytes make another of it; so what the demands ask of a card holds of every
+-- card that the routines make. Assumes nothing.
 use mathlib.Core.Path.{_≡_}
 use mathlib.Core.Logic.{_⊎_}
-use mathlib.Core.Bool.{Bool}
-use mathlib.Core.List.{List}
-use Prim.Native.Nat.{ℕ}
-use lib.ListN.{getD}
-use Rattle.table.specs.Names.{MbAdr}
+use mathlib.Core.Bool.{Bool, true, not}
+use mathlib.Core.List.{List, []}
+use Prim.Native.Nat.{ℕ, _^_, _≤_, _<_}
+use lib.Dec.{eqb}
+use lib.ListN.{length, getD}
+use Rattle.base.specs.Choice.{both, either}
+use Rattle.table.specs.Names.{MbAdr, SioTot}
+use Rattle.port.specs.Port.{Numbers, sum}
 use Rattle.drive.specs.Plant.{Plant}
 use Rattle.drive.specs.Plant as Plants
+use Rattle.drive.specs.Flags.{flagged}
+use Rattle.drive.specs.Faults.{active}
+use Rattle.drive.specs.Events.{isFault}
 use Rattle.drive.specs.declared.events.Measured.{Measured}
-use Rattle.card.specs.State.{started, restarted}
+use Rattle.pending.specs.Held.{held}
+use Rattle.pending.specs.Held as Held
+use Rattle.card.specs.State.{started, restarted, protocolOf}
 use Rattle.card.specs.Events.{faultRaised, causeEnded, din1Set, measuredSet, parityTold, ticked}
 use Rattle.card.specs.declared.state.Card.{Card}
 use Rattle.card.specs.declared.state.Protocol as Protocols
 use Rattle.receive.specs.Receive.{received}
 use Rattle.master_reply.specs.Told.{Within}
+use Rattle.demands.specs.Calls.{nfoSerial, modbusAscii, Speaks}
 
+-- ---- the plant
 -- "SCMD | 0, 129, 257"
 abbrev pub Command : ℕ → Type 0
 Command w = (w ≡ 0) ⊎ ((w ≡ 129) ⊎ (w ≡ 257))
 
-pub record Allowed (p : Plant) : Type 0 where
+-- "SCMD is written only at MODE 3; run values need DIN1 active"; "SCMD becomes 0 when DIN1 goes inactive, a fault flag is raised, or MODE changes"
+abbrev pub Commanded : Plant → Type 0
+Commanded p = (Plants.mode p ≡ 3) × (active p ≡ true) × (Plants.flags p ≡ 0)
+
+-- a mask of 32 bits: "Faults 1 to 13 and 16 to 23 .. each have a cause and a flag"; "Either one at MODE 3 also raises flag 14"
+abbrev pub OnlyFaults : ℕ → Type 0
+OnlyFaults mask = (mask < 2 ^ 32) × ((k : ℕ) → k < 32 → flagged k mask ≡ true → isFault k ≡ true)
+
+abbrev pub OnlyFaultsAnd14 : ℕ → Type 0
+OnlyFaultsAnd14 mask = (mask < 2 ^ 32) × ((k : ℕ) → k < 32 → flagged k mask ≡ true → (isFault k ≡ true) ⊎ (k ≡ 14))
+
+-- number n is put into a mask, or taken out of it, and no other is
+abbrev pub PutIn : ℕ → (before after : ℕ) → Type 0
+PutIn n before after = (k : ℕ) → k < 32 → flagged k after ≡ either (flagged k before) (eqb k n)
+
+abbrev pub TakenOut : ℕ → (before after : ℕ) → Type 0
+TakenOut n before after = (k : ℕ) → k < 32 → flagged k after ≡ both (flagged k before) (not (eqb k n))
+
+pub record SoundPlant (p : Plant) : Type 0 where
+  -- the array's length, which its type tells
+  pub sized : Plants.Sized p
   -- "MbAdr | 1..247"
   pub address : Within 1 247 (getD p MbAdr 0)
   -- "MODE | 1, 2, 3"
   pub mode : Within 1 3 (Plants.mode p)
   pub scmd : Command (Plants.scmd p)
+  pub commanded : (Plants.scmd p ≡ 0 → ⊥) → Commanded p
   -- "Addresses 1 to 247; ours is what MbAdr held at the last start or restart"
   pub station : Within 1 247 (Plants.station p)
+  pub causes : OnlyFaults (Plants.causes p)
+  pub flags : OnlyFaultsAnd14 (Plants.flags p)
+  -- 14 is raised at MODE 3, and while it stands no write changes MODE (5)
+  pub bus : flagged 14 (Plants.flags p) ≡ true → Plants.mode p ≡ 3
 
-abbrev pub Addressed : Card → Type 0
-Addressed c = Allowed (c .plant)
+-- ---- the port
+-- "if the bytes left could still become one, they are pending": what is pending could become a message of the port's protocol. Of RTU nothing is
+pub record SoundPending (c : Card) : Type 0 where
+  -- the array's length, which its type tells
+  pub sized : Held.Sized (c .port .pending)
+  pub nfo : Speaks nfoSerial c → nfoSerial .format .viable (held (c .port .pending)) ≡ true
+  pub rtu : protocolOf c ≡ 1 → held (c .port .pending) ≡ []
+  pub ascii : Speaks modbusAscii c → modbusAscii .format .viable (held (c .port .pending)) ≡ true
+
+-- "While SioTot is 0 the sum is 0"
+abbrev pub SumRight : Plant → Numbers → Type 0
+SumRight p q = getD p SioTot 0 ≡ 0 → sum q ≡ 0
+
+-- ---- the card
+pub record Sound (c : Card) : Type 0 where
+  pub plant : SoundPlant (c .plant)
+  pub pending : SoundPending c
+  -- the array's length, which its type tells; "The protocol of a port is chosen at start": NFO serial, Modbus RTU or Modbus ASCII
+  pub numbers : length (c .port .numbers) ≡ 3
+  pub protocol : protocolOf c ≤ 2
+  pub sum : SumRight (c .plant) (c .port .numbers)
 
 pub record Kept : Type 0 where
-  pub start : (protocol : Protocols.Protocol) → Addressed (started protocol)
-  pub restart : (c : Card) → Addressed c → Addressed (restarted c)
-  pub raise : (n : ℕ) (c : Card) → Addressed c → Addressed (faultRaised n c .card)
-  pub end : (n : ℕ) (c : Card) → Addressed c → Addressed (causeEnded n c .card)
-  pub din1 : (active : Bool) (c : Card) → Addressed c → Addressed (din1Set active c .card)
-  pub measure : (measured : Measured) (c : Card) → Addressed c → Addressed (measuredSet measured c .card)
-  pub parity : (c : Card) → Addressed c → Addressed (parityTold c .card)
-  pub tick : (n : ℕ) (c : Card) → Addressed c → Addressed (ticked n c .card)
-  pub receive : (c : Card) (bytes : List ℕ) (room : ℕ) → Addressed c → Addressed (received c bytes room .card)
+  pub start : (protocol : Protocols.Protocol) → Sound (started protocol)
+  pub restart : (c : Card) → Sound c → Sound (restarted c)
+  pub raise : (n : ℕ) (c : Card) → Sound c → Sound (faultRaised n c .card)
+  pub end : (n : ℕ) (c : Card) → Sound c → Sound (causeEnded n c .card)
+  pub din1 : (active : Bool) (c : Card) → Sound c → Sound (din1Set active c .card)
+  pub measure : (measured : Measured) (c : Card) → Sound c → Sound (measuredSet measured c .card)
+  pub parity : (c : Card) → Sound c → Sound (parityTold c .card)
+  pub tick : (n : ℕ) (c : Card) → Sound c → Sound (ticked n c .card)
+  pub receive : (c : Card) (bytes : List ℕ) (room : ℕ) → Sound c → Sound (received c bytes room .card)

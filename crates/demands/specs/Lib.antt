@@ -1,7 +1,21 @@
+-- What the card owes, stated over its public routines. To be read in this order:
+--   Calls     what the statements speak of: calls on a stream, the two protocols that come as one, messages
+--   Kept      what every card is that the routines make
+--   Orders    document 01's orders of refusals
+--   Demand1   numbers: each given exactly then, and what it leaves; bytes used; the host's events; the master's refusals and readers
+--   Host      what start, restart and the host's events do
+--   Effects   what a message does, by what a following read tells
+--   Demand2   what the master wrote arrives, and what was answered is heard
+--   Demand3   streams, cut anywhere
+--   Cases     document 01's worked cases
+--   Demands   all of it, one type, of which proofs/Demands.antt has the proof
 pub mod Calls
+pub mod Kept
 pub mod Orders
 pub mod Demand1
+pub mod Host
+pub mod Effects
 pub mod Demand2
 pub mod Demand3
 pub mod Cases
-pub mod Kept
+pub mod Demands

@@ -6,8 +6,8 @@ use mathlib.Core.Bool.{true, false, not}
 use mathlib.Core.List.{List, [], _∷_, _++_}
 use Prim.Native.Nat.{ℕ}
 use lib.Dec.{eqb, ltb}
-use lib.ListN.{getD}
 use Rattle.base.specs.Choice.{pick}
+use Rattle.base.specs.Buffers.{replyLeast}
 use Rattle.base.specs.Order.{Line, when, saying, numbers}
 use Rattle.table.specs.declared.labels.Row.{Row}
 use Rattle.table.specs.declared.labels.Register.{Register}
@@ -34,8 +34,7 @@ use Rattle.modbus.specs.Request.{requestOf}
 use Rattle.modbus.specs.declared.requests.Request.{Request}
 use Rattle.modbus.specs.declared.requests.Request.the-variants.{Read, One, Many, Malformed, Unknown}
 use Rattle.rtu.specs.Rtu.{frameHolds, addressIn, unitIn}
-use Rattle.ascii.specs.Ascii.{bytesIn}
-use Rattle.ascii.specs.Ascii.{unitAmong}
+use Rattle.ascii.specs.Ascii.{bytesIn, unitAmong, addressAmong}
 use Rattle.modbus_service.specs.Serve as Modbus
 use Rattle.nfo_port.specs.Receive.{nfoStream}
 use Rattle.ascii_port.specs.Receive.{asciiStream}
@@ -95,7 +94,7 @@ serialOrder c scan = streamOrder scan (nfoOrder (c .plant) (messageOf (scan .pen
 abbrev pub asciiOrder : Card → Scan → List (Line Outcome)
 asciiOrder c scan =
     let message : List ℕ = bytesIn (held (scan .pending)) in
-    streamOrder scan (modbusOrder (c .plant) (station (c .plant)) (getD message 0 0) (unitAmong message))
+    streamOrder scan (modbusOrder (c .plant) (station (c .plant)) (addressAmong message) (unitAmong message))
 
 -- "Modbus 11": "RTU length or CRC wrong"
 abbrev pub rtuOrder : Card → List ℕ → List (Line Outcome)
@@ -104,6 +103,6 @@ rtuOrder c frame = when (not (frameHolds frame)) BadFrame ∷ saying Served (mod
 -- "Order: 10 first, in every reply call"; "A reply buffer under 19 bytes is 10"
 abbrev pub callOrder : Card → List ℕ → ℕ → List (Line Outcome)
 callOrder c bytes room =
-    when (ltb room 19) ShortBuffer
+    when (ltb room replyLeast) ShortBuffer
     ∷ pick (eqb (protocolOf c) 1) (rtuOrder c bytes)
     (pick (eqb (protocolOf c) 2) (asciiOrder c (scanOf (asciiStream .feeding) c bytes)) (serialOrder c (scanOf (nfoStream .feeding) c bytes)))

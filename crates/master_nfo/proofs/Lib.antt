@@ -5,3 +5,4 @@ pub mod Heard
 pub mod Answered
 pub mod Tested
 pub mod Cases
+pub mod Unsayable

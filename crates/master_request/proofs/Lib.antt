@@ -1,3 +1,4 @@
+pub mod Unsayable
 pub mod Limits
 pub mod Bodies
 pub mod AsSaid

@@ -1,15 +1,16 @@
 -- What can be said is within 01's limits. Assumes nothing.
 use mathlib.Core.Path.{_≡_}
+use mathlib.Core.Logic.{_⊎_, inl, inr}
 use mathlib.Core.Bool.{true}
-use Prim.Native.Nat.{ℕ, _/_, _%_, _≤_}
-use borrow.Author.Tests.{eqb-true, leb-true}
-use lib.Dec.{leb, eqb}
-use Rattle.base.specs.Choice.{both}
-use Rattle.base.proofs.Tests.{both-out}
-use Rattle.modbus.specs.Request.{between}
+use Prim.Native.Nat.{ℕ, _/_, _%_, _≤_, _<_}
+use native.Mathlib.Omega.{arith}
+use borrow.Author.Tests.{leb-true}
+use Rattle.base.proofs.Tests.{not-both}
 use Rattle.master_request.specs.declared.Ask.{Ask}
 use Rattle.master_request.specs.declared.Ask.the-variants.{Holding, Input, One, Many}
 use Rattle.master_request.specs.Ask.{readSayable, manySayable, sayable}
+use Rattle.master_request.specs.Said.{Outside}
+use Rattle.master_request.proofs.Unsayable.{read-unsayable, many-unsayable}
 
 pub record ReadSayable (a n : ℕ) : Type 0 where
   pub first : 1 ≤ a
@@ -18,12 +19,15 @@ pub record ReadSayable (a n : ℕ) : Type 0 where
   pub most : n ≤ 125
 
 pub read-out : (a n : ℕ) → readSayable a n ≡ true → ReadSayable a n
-unfolding readSayable
 read-out a n e =
-    let h = both-out (between 1 247 a) (between 1 125 n) e in
-    let k = both-out (leb 1 a) (leb a 247) (h .0) in
-    let l = both-out (leb 1 n) (leb n 125) (h .1) in
-    record { first = leb-true 1 a (k .0); last = leb-true a 247 (k .1); some = leb-true 1 n (l .0); most = leb-true n 125 (l .1) }
+    let no-0 : a ≡ 0 → ⊥ = λ z. unsaid (inl z) in
+    let below-248 : 247 < a → ⊥ = λ h. unsaid (inr (inl h)) in
+    let some : n < 1 → ⊥ = λ l. unsaid (inr (inr (inl l))) in
+    let most : 125 < n → ⊥ = λ h. unsaid (inr (inr (inr h))) in
+    record { first = omega arith; last = omega arith; some = omega arith; most = omega arith }
+  where
+    unsaid : (a ≡ 0) ⊎ ((247 < a) ⊎ Outside 1 125 n) → ⊥
+    unsaid u = not-both e (read-unsayable a n .1 u)
 
 -- n register bytes
 pub record ManySayable (a n : ℕ) : Type 0 where
@@ -33,12 +37,15 @@ pub record ManySayable (a n : ℕ) : Type 0 where
   pub most : n / 2 ≤ 123
 
 pub many-out : (a n : ℕ) → manySayable a n ≡ true → ManySayable a n
-unfolding manySayable
 many-out a n e =
-    let h = both-out (leb a 247) (both (eqb (n % 2) 0) (between 1 123 (n / 2))) e in
-    let k = both-out (eqb (n % 2) 0) (between 1 123 (n / 2)) (h .1) in
-    let l = both-out (leb 1 (n / 2)) (leb (n / 2) 123) (k .1) in
-    record { last = leb-true a 247 (h .0); whole = eqb-true (n % 2) 0 (k .0); some = leb-true 1 (n / 2) (l .0); most = leb-true (n / 2) 123 (l .1) }
+    let below-248 : 247 < a → ⊥ = λ h. unsaid (inl h) in
+    let even : n % 2 ≡ 1 → ⊥ = λ o. unsaid (inr (inl o)) in
+    let some : n / 2 < 1 → ⊥ = λ l. unsaid (inr (inr (inl l))) in
+    let most : 123 < n / 2 → ⊥ = λ h. unsaid (inr (inr (inr h))) in
+    record { last = omega arith; whole = omega arith; some = omega arith; most = omega arith }
+  where
+    unsaid : (247 < a) ⊎ ((n % 2 ≡ 1) ⊎ Outside 1 123 (n / 2)) → ⊥
+    unsaid u = not-both e (many-unsayable a n .1 u)
 
 pub said-address : (a : ℕ) (ask : Ask) (n : ℕ) → sayable a ask n ≡ true → a ≤ 247
 unfolding sayable

@@ -1,6 +1,8 @@
 -- What the card is to read of what a master asks: that same request. Assumes nothing.
+use mathlib.Core.Path.{_≡_}
+use mathlib.Core.Logic.{_⊎_}
 use mathlib.Core.List.{List, []}
-use Prim.Native.Nat.{ℕ, _+_, _/_, _<_}
+use Prim.Native.Nat.{ℕ, _+_, _/_, _%_, _<_}
 use lib.ListN.{length}
 use Rattle.base.specs.Bytes.{Bytes}
 use Rattle.modbus_words.specs.Words.{wordBytes}
@@ -30,3 +32,14 @@ InWidth (ask.Holding first count) registers = (first .0 < 65536) × (count < 655
 InWidth (ask.Input first count) registers = (first .0 < 65536) × (count < 65536)
 InWidth (ask.One register word) registers = (register .0 < 65536) × (word < 65536)
 InWidth (ask.Many first) registers = (first .0 < 65536) × Bytes registers
+
+-- "13 (addresses above .. 247, a broadcast read, counts outside the limits)": what cannot be said. "Counts 1 to 125 to read, 1 to 123 to write"; an odd number of
+-- register bytes is no count
+abbrev pub Outside : ℕ → ℕ → ℕ → Type 0
+Outside low high n = (n < low) ⊎ (high < n)
+
+abbrev pub Unsayable : (address : ℕ) → Ask → (bytes : ℕ) → Type 0
+Unsayable address (ask.Holding first count) bytes = (address ≡ 0) ⊎ ((247 < address) ⊎ Outside 1 125 count)
+Unsayable address (ask.Input first count) bytes = (address ≡ 0) ⊎ ((247 < address) ⊎ Outside 1 125 count)
+Unsayable address (ask.One register word) bytes = 247 < address
+Unsayable address (ask.Many first) bytes = (247 < address) ⊎ ((bytes % 2 ≡ 1) ⊎ Outside 1 123 (bytes / 2))

@@ -146,11 +146,11 @@ pub fn write_answer(message: Message, answer: Answer, out: &mut [u8]) -> usize
     ensures count { λ r. ⌜ r ≡ length (fitting (replied message answer) (length (now (out .entry)))) ⌝ }
     ensures lent { λ _. ⌜ now (out .exit) ≡ front (fitting (replied message answer) (length (now (out .entry)))) (now (out .entry)) ⌝ }
 {
-    let adr = adr_in(message);
-    if adr == 0x7F {
+    let to = adr_in(message);
+    if to == 0x7F {
         return 0;
     }
-    put(adr, number_in(message), answer, out)
+    put(to, number_in(message), answer, out)
 }
 
 fn adr_in(message: Message) -> u8

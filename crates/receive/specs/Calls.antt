@@ -2,6 +2,7 @@
 use mathlib.Core.List.{List, [], _∷_, _++_}
 use Prim.Native.Nat.{ℕ, _≤_}
 use lib.ListN.{drop}
+use Rattle.base.specs.Buffers.{replyLeast}
 use Rattle.card.specs.declared.state.Card.{Card}
 use Rattle.card.specs.declared.outcome.Outcome.{Outcome}
 use Rattle.card.specs.declared.outcome.Outcome.the-variants as Outcomes
@@ -35,6 +36,6 @@ ended c = record { outcomes = []; replies = []; card = c }
 -- unused rest again first": after a call on the scrap x, what it did not use of x comes before the bytes y that are still to come
 pub data Calls : Card → List ℕ → Course → Type 0 where
   over : {c : Card} → Calls c [] (ended c)
-  call : {c : Card} (x y : List ℕ) (room : ℕ) {k : Course} → 19 ≤ room
+  call : {c : Card} (x y : List ℕ) (room : ℕ) {k : Course} → replyLeast ≤ room
       → Calls (received c x room .card) (drop (received c x room .used) x ++ y) k
       → Calls c (x ++ y) (adding (received c x room) k)

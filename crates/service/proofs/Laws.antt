@@ -9,7 +9,7 @@ use Rattle.answers.specs.Answer.{answerNumber}
 use Rattle.permit.specs.declared.Permit.{Permit}
 use Rattle.permit.specs.declared.Permit.the-variants.{Write, Refused}
 use Rattle.permit.specs.Permit.{permitOf}
-use Rattle.reading.specs.Read.{Told, told}
+use Rattle.reading.specs.Read.{told}
 use Rattle.service.specs.Write.{Written, after, written}
 use Rattle.service.specs.Serving.{Served, keeping, telling, toldServed, permitted, wroteServed}
 

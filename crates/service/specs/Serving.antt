@@ -1,6 +1,7 @@
 -- What serving a message does, and what it comes to. Assumes nothing.
 use mathlib.Core.Bool.{Bool, true, false}
 use Prim.Native.Nat.{ℕ}
+use Rattle.table.specs.Names.{rowCount}
 use Rattle.table.specs.declared.labels.Row.{Row}
 use Rattle.table.specs.declared.labels.Found.{Found}
 use Rattle.table.specs.declared.labels.Found.the-variants.{At, NoRow}
@@ -21,7 +22,7 @@ isNone NoRow = true
 -- where there is none, a message is refused; this only fills the place
 abbrev pub theRow : Found → Row
 theRow (At row) = row
-theRow NoRow = record { 0 = 30 }
+theRow NoRow = record { 0 = rowCount }
 
 -- ---- what is done
 -- the plant and the port after a message, and what it came to

@@ -5,7 +5,7 @@ use Prim.Native.Nat.{ℕ, _+_, _-_, _*_, _%_, _≤_, _<_}
 use native.Mathlib.Omega.{arith}
 use borrow.Author.Tests.{lt-ltb, le-ltb}
 use borrow.Rule.Slice.PartMut.{midOf, putMid}
-use lib.ListN.{length, take, drop, set, length-set, length-append, length-take, length-drop}
+use lib.ListN.{length, take, set, length-set, length-append, length-take, length-drop}
 use lib.Seq.{sets, length-sets}
 use Rattle.base.specs.Buffers.{front}
 use Rattle.base.proofs.Sets.{sets-part, sets-append, sets-front, take-front, length-front, front-none}

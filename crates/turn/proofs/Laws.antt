@@ -1,10 +1,10 @@
 -- A stream call, case by case, for any protocol that comes as a stream. Assumes nothing.
 use mathlib.Core.Path.{_≡_, refl, sym, ap, _∙_}
-use mathlib.Core.Bool.{true, false, not}
+use mathlib.Core.Bool.{Bool, true, false, not}
 use mathlib.Core.List.{List, []}
-use Prim.Native.Nat.{ℕ, _+_, _≤_, _<_}
+use Prim.Native.Nat.{ℕ, _≤_, _<_}
 use native.Mathlib.Omega.{arith}
-use borrow.Author.Tests.{lt-ltb, le-ltb, not-true, not-false}
+use borrow.Author.Tests.{lt-ltb, le-ltb, ltb-false, not-true, not-false}
 use lib.Dec.{ltb}
 use lib.ListN.{length}
 use Rattle.base.specs.Buffers.{front, replyLeast}
@@ -60,21 +60,25 @@ pub after-in : (held : List ℕ) (n : ℕ) (q : Numbers) (s : Served) → q ≡ 
 unfolding cardAfter emptied
 after-in held n q s e = rw e
 
--- ---- the bytes used: none that is not there, and one at least where there is one and the buffer is no shorter than 19
+-- ---- the bytes used
 module _ (S : Stream) (c : Card) (bytes : List ℕ) (room : ℕ) where
-  pub streamed-used : streamed S c bytes room .used ≤ length bytes
+  -- "up to the end of the first message taken, or all": so many as the scan passed, whether it took a message or not
+  pub streamed-ends : replyLeast ≤ room → streamed S c bytes room .used ≡ scanFrom (S .feeding) (c .port .pending) 0 bytes .used
   unfolding waiting
-  streamed-used =
-      let most : scanFrom (S .feeding) (c .port .pending) 0 bytes .used ≤ 0 + length bytes = scan-used (S .feeding) bytes (c .port .pending) 0 .1 in
-      pick-both (λ (r : Received). r .used ≤ length bytes) (ltb room replyLeast) (λ e. omega arith)
-      (λ e. pick-both (λ (r : Received). r .used ≤ length bytes) (scanFrom (S .feeding) (c .port .pending) 0 bytes .taken) (λ k. omega arith) (λ k. omega arith))
+  streamed-ends h =
+      let scan : Scan = scanFrom (S .feeding) (c .port .pending) 0 bytes in
+      simp (le-ltb room replyLeast h) (pick-both (λ (r : Received). r .used ≡ scan .used) (scan .taken) (λ k. refl) (λ k. refl))
+
+  -- none that is not there, and one at least where there is one and the buffer is no shorter than the least
+  pub streamed-used : streamed S c bytes room .used ≤ length bytes
+  streamed-used = go (ltb room replyLeast) refl
+    where
+      go : (t : Bool) → ltb room replyLeast ≡ t → streamed S c bytes room .used ≤ length bytes
+      go true e = simp e (omega arith)
+      go false e = omega (arith, streamed-ends (ltb-false room replyLeast e), scan-used (S .feeding) bytes (c .port .pending) 0 .1)
 
   pub streamed-uses : replyLeast ≤ room → 0 < length bytes → 0 < streamed S c bytes room .used
-  unfolding waiting
-  streamed-uses h l =
-      let least : 0 < scanFrom (S .feeding) (c .port .pending) 0 bytes .used = scan-uses (S .feeding) bytes (c .port .pending) 0 l in
-      simp (le-ltb room replyLeast h)
-      (pick-both (λ (r : Received). 0 < r .used) (scanFrom (S .feeding) (c .port .pending) 0 bytes .taken) (λ k. least) (λ k. least))
+  streamed-uses h l = omega (arith, streamed-ends h, scan-uses (S .feeding) bytes (c .port .pending) 0 l)
 
   -- a reply is no longer than the protocol's are
   pub streamed-short : (most : ℕ) → ((scan : Scan) → length (S .reply c (scan .pending)) ≤ most) → length (streamed S c bytes room .reply) ≤ most

@@ -1,0 +1,152 @@
+-- Start, restart and the host's events do what document 01 says of them. Assumes nothing.
+use mathlib.Core.Path.{_≡_, refl, ap, _∙_}
+use mathlib.Core.Logic.{_≢_}
+use mathlib.Core.Bool.{true}
+use Prim.Native.Nat.{ℕ, _+_, _≤_, _<_}
+use native.Mathlib.Omega.{arith}
+use borrow.Author.Tests.{eq-eqb, ne-eqb, lt-ltb, le-ltb}
+use lib.Bits.{bitOr, bitAnd}
+use lib.ListN.{length, getD, length-set}
+use lib.Seq.{getD-set-same, getD-set-other}
+use Rattle.base.specs.Choice.{both, either}
+use Rattle.table.specs.Names.{SioTot, MbAdr, MODE, SCMD}
+use Rattle.table.specs.Table.{rows, startWords}
+use Rattle.port.specs.Port.{sum, sioerr}
+use Rattle.drive.specs.Plant as Plants
+use Rattle.drive.specs.Plant.{Plant, Flags, Station, mode, causes, flags, withMode, withScmd, withFlags, withStation}
+use Rattle.drive.specs.Flags.{flagged, only, allBut}
+use Rattle.drive.specs.Faults.{flagRaised}
+use Rattle.drive.specs.Events.{isFault, raised, ended, portFault, withActive, withMeasured}
+use Rattle.drive.proofs.Laws.{fault-small}
+use Rattle.drive.proofs.Masks.{masks}
+use Rattle.pending.proofs.Laws.{held-empty, held-emptied}
+use Rattle.card.specs.State.{coreOf, cardSum, started, restarted, withPlant}
+use Rattle.card.specs.Events.{eventOn, faultRaised, causeEnded, din1Set, measuredSet, portFaulted, parityTold, counted, tickedIn, ticked}
+use Rattle.card.specs.declared.state.Card.{Card}
+use Rattle.card.specs.declared.state.Protocol as Protocols
+use Rattle.master_reply.specs.Told.{Within}
+use Rattle.demands.specs.Kept.{PutIn, TakenOut, Sound}
+use Rattle.demands.specs.Host.{RaisesFlag, PortFaultLeaves, AtStart, AfterRestart, Host}
+
+-- ---- masks
+put-in : (n mask : ℕ) → n < 32 → PutIn n mask (bitOr mask (only n))
+put-in n mask small k h = masks .joined k mask (only n) ∙ ap (either (flagged k mask)) (masks .alone n k small h)
+
+taken-out : (n mask : ℕ) → n < 32 → TakenOut n mask (bitAnd mask (allBut n))
+taken-out n mask small k h = masks .common k mask (allBut n) ∙ ap (both (flagged k mask)) (masks .others n k small h)
+
+flag-raised : (n : ℕ) (p : Plant) → n < 32 → RaisesFlag n p (flagRaised (only n) p)
+unfolding flagRaised
+flag-raised n p small = (bitOr (flags p) (only n), put-in n (flags p) small, refl)
+
+-- ---- faults
+raise : (n : ℕ) (c : Card) → isFault n ≡ true
+    → (p : Plant) × RaisesFlag n (c .plant) p × ((x : ℕ) × PutIn n (causes (c .plant)) x × (faultRaised n c .card ≡ withPlant (Plants.withCauses x p) c))
+unfolding faultRaised eventOn raised
+raise n c e =
+    let small : n < 32 = fault-small n e in
+    (flagRaised (only n) (c .plant), flag-raised n (c .plant) small, (bitOr (causes (c .plant)) (only n), put-in n (causes (c .plant)) small, rw e))
+
+end : (n : ℕ) (c : Card) → isFault n ≡ true → (x : ℕ) × TakenOut n (causes (c .plant)) x × (causeEnded n c .card ≡ withPlant (Plants.withCauses x (c .plant)) c)
+unfolding causeEnded eventOn ended
+end n c e = (bitAnd (causes (c .plant)) (allBut n), taken-out n (causes (c .plant)) (fault-small n e), rw e)
+
+-- ---- the port's faults: a bit of SioErr, and at MODE 3 flag 14
+port-fault : (bit : ℕ) (c : Card) → bit < 32 → PortFaultLeaves bit c (record { port = record { pending = c .port .pending; numbers = portFaulted (only bit) (coreOf c) .port }; plant = portFaulted (only bit) (coreOf c) .plant })
+unfolding portFaulted portFault
+port-fault bit c small =
+    record {
+      word = bitOr (sioerr (c .port .numbers)) (only bit);
+      bit-set = put-in bit (sioerr (c .port .numbers)) small;
+      port = refl;
+      at-3 = λ e. rw (eq-eqb (mode (c .plant)) 3 e) (flag-raised 14 (c .plant) (omega arith));
+      else = λ n. rw (ne-eqb (mode (c .plant)) 3 n);
+    }
+
+parity : (c : Card) → PortFaultLeaves 1 c (parityTold c .card)
+unfolding parityTold
+parity c = port-fault 1 c (omega arith)
+
+-- ---- ticks
+module _ (n : ℕ) (c : Card) (h : Within 1 250 n) where
+  -- 1 to 250 tenths are counted
+  counts : ticked n c .card ≡ record { port = record { pending = c .port .pending; numbers = counted (getD (c .plant) SioTot 0) n (coreOf c) .port }; plant = counted (getD (c .plant) SioTot 0) n (coreOf c) .plant }
+  unfolding ticked tickedIn
+  counts = rw (le-ltb n 1 (h .0), le-ltb 250 n (h .1))
+
+  tick-off : getD (c .plant) SioTot 0 ≡ 0 → ticked n c .card ≡ cardSum 0 c
+  unfolding counted
+  tick-off e = counts ∙ rw (eq-eqb (getD (c .plant) SioTot 0) 0 e)
+
+  tick-below : getD (c .plant) SioTot 0 ≢ 0 → sum (c .port .numbers) + n ≤ getD (c .plant) SioTot 0 → ticked n c .card ≡ cardSum (sum (c .port .numbers) + n) c
+  unfolding counted
+  tick-below e l = counts ∙ rw (ne-eqb (getD (c .plant) SioTot 0) 0 e, le-ltb (getD (c .plant) SioTot 0) (sum (c .port .numbers) + n) l)
+
+  tick-above : getD (c .plant) SioTot 0 ≢ 0 → getD (c .plant) SioTot 0 < sum (c .port .numbers) + n → PortFaultLeaves 0 (cardSum 0 c) (ticked n c .card)
+  unfolding counted
+  tick-above e l = rw (counts, ne-eqb (getD (c .plant) SioTot 0) 0 e, lt-ltb (getD (c .plant) SioTot 0) (sum (c .port .numbers) + n) l) (port-fault 0 (cardSum 0 c) (omega arith))
+
+-- ---- start and restart
+start : (protocol : Protocols.Protocol) → AtStart protocol (started protocol)
+unfolding started Plants.started startWords rows
+start protocol = record { speaks = refl; pending = held-empty; sum = refl; din1 = refl; causes = refl; flags = refl }
+
+-- a restart sets four numbers, one after the other
+module _ (c : Card) (sound : Sound c) where
+  abbrev p : Plant
+  p = c .plant
+
+  abbrev addressed : Plant
+  addressed = withStation (getD p MbAdr 0) p
+
+  abbrev reflagged : Plant
+  reflagged = withFlags (causes p) addressed
+
+  abbrev halted : Plant
+  halted = withScmd 0 reflagged
+
+  addressed-long : length addressed ≡ 34
+  addressed-long = length-set p Station (getD p MbAdr 0) ∙ sound .plant .sized
+
+  reflagged-long : length reflagged ≡ 34
+  reflagged-long = length-set addressed Flags (causes p) ∙ addressed-long
+
+  -- a number that is none of them
+  past : (i : ℕ) → i ≢ MODE → i ≢ SCMD → getD (withMode 1 halted) i 0 ≡ getD reflagged i 0
+  past i m s = getD-set-other halted MODE i 1 0 m ∙ getD-set-other reflagged SCMD i 0 0 s
+
+  restart : AfterRestart c (restarted c)
+  unfolding restarted Plants.restarted
+  restart =
+      record {
+        keeps = λ i m s f o. past i m s ∙ getD-set-other addressed Flags i (causes p) 0 f ∙ getD-set-other p Station i (getD p MbAdr 0) 0 o;
+        flags = past Flags (λ e. absurd (omega (arith, e))) (λ e. absurd (omega (arith, e))) ∙ getD-set-same addressed Flags (causes p) 0 (omega (arith, addressed-long));
+        mode = getD-set-same halted MODE 1 0 (omega (arith, length-set reflagged SCMD 0, reflagged-long));
+        scmd = getD-set-other halted MODE SCMD 1 0 (λ e. absurd (omega (arith, e))) ∙ getD-set-same reflagged SCMD 0 0 (omega (arith, reflagged-long));
+        station =
+            past Station (λ e. absurd (omega (arith, e))) (λ e. absurd (omega (arith, e))) ∙ getD-set-other addressed Flags Station (causes p) 0 (λ e. absurd (omega (arith, e)))
+            ∙ getD-set-same p Station (getD p MbAdr 0) 0 (omega (arith, sound .plant .sized));
+        speaks = refl;
+        pending = held-emptied (c .port .pending);
+        sum = refl;
+        sioerr = refl;
+      }
+
+pub host : Host
+unfolding din1Set withActive measuredSet withMeasured
+host =
+    record {
+      start = start;
+      restart = restart;
+      raise = raise;
+      end = end;
+      active = λ c. refl;
+      inactive = λ c. refl;
+      frq-act = λ w c. refl;
+      i-rms = λ w c. refl;
+      op-time = λ w c. refl;
+      parity = parity;
+      tick-off = tick-off;
+      tick-below = tick-below;
+      tick-above = tick-above;
+    }

@@ -1,0 +1,17 @@
+-- All that the card owes. Assumes nothing.
+use Rattle.demands.specs.Kept.{Kept}
+use Rattle.demands.specs.Demand1.{Demand1}
+use Rattle.demands.specs.Host.{Host}
+use Rattle.demands.specs.Effects.{Effects}
+use Rattle.demands.specs.Demand2.{Demand2}
+use Rattle.demands.specs.Demand3.{Demand3}
+use Rattle.demands.specs.Cases.{Cases}
+
+pub record Demands : Type 0 where
+  pub kept : Kept
+  pub demand-1 : Demand1
+  pub host : Host
+  pub effects : Effects
+  pub demand-2 : Demand2
+  pub demand-3 : Demand3
+  pub cases : Cases
