@@ -9,7 +9,7 @@ use lib.Bits.{bitOr, bitAnd}
 use lib.Dec.{eqb, ltb}
 use lib.ListN.{length, getD, length-set}
 use lib.Seq.{getD-set-same, getD-set-other}
-use Rattle.base.specs.Choice.{pick, both, either}
+use Rattle.base.specs.Choice.{pick, both}
 use Rattle.base.proofs.Tests.{pick-both}
 use Rattle.table.specs.Names.{Mode, Setpoint, MODE, SCMD, Inv-St-ack, Inv-St, SioErr, rowCount}
 use Rattle.port.specs.Port.{Numbers, ProtocolAt, Sum, Sioerr, protocol, sum, sioerr, withSum, withSioerr}
@@ -17,6 +17,7 @@ use Rattle.drive.specs.Plant.{Plant, DIN1, Causes, Flags, Station, scmd, din1, 
 use Rattle.drive.specs.Flags.{flagged, only, allBut}
 use Rattle.drive.specs.Faults.{acknowledged, without14, stopped}
 use Rattle.drive.proofs.Masks.{masks}
+use Rattle.drive.proofs.Flagging.{put-in, taken-out}
 use Rattle.reading.specs.Read.{Told, stored, told}
 use Rattle.service.specs.Write.{applied}
 use Rattle.service.proofs.Stores.{stores-told, leaves, sets-setpoint, sets-scmd}
@@ -196,12 +197,12 @@ module _ (c d : Card) (n : ℕ) (plant : d .plant ≡ told (c .plant) (c .port .
             let t : told (c .plant) (c .port .numbers) n ≡ _ = ap (told (c .plant) (c .port .numbers)) e ∙ tells-ack (c .plant) (c .port .numbers) in (
               bitAnd (flags (c .plant)) (bitOr (causes (c .plant)) (only 14)),
               besides-same (flaggedWith (bitAnd (flags (c .plant)) (bitOr (causes (c .plant)) (only 14))) c) d (plant ∙ ap (λ (x : Told). x .plant) t) (port ∙ ap (λ (x : Told). withSum 0 (x .port)) t),
-              λ k l. masks .common k _ _ ∙ ap (both (flagged k (flags (c .plant)))) (masks .joined k _ _ ∙ ap (either (flagged k (causes (c .plant)))) (masks .alone 14 k (omega arith) l)),
+              λ k l. masks .common k _ _ ∙ ap (both (flagged k (flags (c .plant)))) (put-in (causes (c .plant)) 14 k (omega arith) l),
             );
         zeroed = λ e.
             let t : told (c .plant) (c .port .numbers) n ≡ _ = ap (told (c .plant) (c .port .numbers)) e ∙ tells-sioerr (c .plant) (c .port .numbers) in (
               bitAnd (flags (c .plant)) (allBut 14),
               besides-same (flaggedWith (bitAnd (flags (c .plant)) (allBut 14)) (sioErrZeroed c)) d (plant ∙ ap (λ (x : Told). x .plant) t) (port ∙ ap (λ (x : Told). withSum 0 (x .port)) t),
-              λ k l. masks .common k _ _ ∙ ap (both (flagged k (flags (c .plant)))) (masks .others 14 k (omega arith) l),
+              λ k l. taken-out (flags (c .plant)) 14 k (omega arith) l,
             );
       }

@@ -1,5 +1,5 @@
 -- Start, restart and the host's events do what document 01 says of them. Assumes nothing.
-use mathlib.Core.Path.{_≡_, refl, ap, _∙_}
+use mathlib.Core.Path.{_≡_, refl, _∙_}
 use mathlib.Core.Logic.{_≢_}
 use mathlib.Core.Bool.{true}
 use Prim.Native.Nat.{ℕ, _+_, _≤_, _<_}
@@ -8,17 +8,16 @@ use borrow.Author.Tests.{eq-eqb, ne-eqb, lt-ltb, le-ltb}
 use lib.Bits.{bitOr, bitAnd}
 use lib.ListN.{length, getD, length-set}
 use lib.Seq.{getD-set-same, getD-set-other}
-use Rattle.base.specs.Choice.{both, either}
 use Rattle.table.specs.Names.{SioTot, MbAdr, MODE, SCMD}
 use Rattle.table.specs.Table.{rows, startWords}
 use Rattle.port.specs.Port.{sum, sioerr}
 use Rattle.drive.specs.Plant as Plants
 use Rattle.drive.specs.Plant.{Plant, Flags, Station, mode, causes, flags, withMode, withScmd, withFlags, withStation}
-use Rattle.drive.specs.Flags.{flagged, only, allBut}
+use Rattle.drive.specs.Flags.{only, allBut}
 use Rattle.drive.specs.Faults.{flagRaised}
 use Rattle.drive.specs.Events.{isFault, raised, ended, portFault, withActive, withMeasured}
 use Rattle.drive.proofs.Laws.{fault-small}
-use Rattle.drive.proofs.Masks.{masks}
+use Rattle.drive.proofs.Flagging.{put-in, taken-out}
 use Rattle.pending.proofs.Laws.{held-empty, held-emptied}
 use Rattle.card.specs.State.{coreOf, cardSum, started, restarted, withPlant}
 use Rattle.card.specs.Events.{eventOn, faultRaised, causeEnded, din1Set, measuredSet, portFaulted, parityTold, counted, tickedIn, ticked}
@@ -28,28 +27,21 @@ use Rattle.master_reply.specs.Told.{Within}
 use Rattle.demands.specs.Kept.{PutIn, TakenOut, Sound}
 use Rattle.demands.specs.Host.{RaisesFlag, PortFaultLeaves, AtStart, AfterRestart, Host}
 
--- ---- masks
-put-in : (n mask : ℕ) → n < 32 → PutIn n mask (bitOr mask (only n))
-put-in n mask small k h = masks .joined k mask (only n) ∙ ap (either (flagged k mask)) (masks .alone n k small h)
-
-taken-out : (n mask : ℕ) → n < 32 → TakenOut n mask (bitAnd mask (allBut n))
-taken-out n mask small k h = masks .common k mask (allBut n) ∙ ap (both (flagged k mask)) (masks .others n k small h)
-
+-- ---- faults
 flag-raised : (n : ℕ) (p : Plant) → n < 32 → RaisesFlag n p (flagRaised (only n) p)
 unfolding flagRaised
-flag-raised n p small = (bitOr (flags p) (only n), put-in n (flags p) small, refl)
+flag-raised n p small = (bitOr (flags p) (only n), λ k. put-in (flags p) n k small, refl)
 
--- ---- faults
 raise : (n : ℕ) (c : Card) → isFault n ≡ true
     → (p : Plant) × RaisesFlag n (c .plant) p × ((x : ℕ) × PutIn n (causes (c .plant)) x × (faultRaised n c .card ≡ withPlant (Plants.withCauses x p) c))
 unfolding faultRaised eventOn raised
 raise n c e =
     let small : n < 32 = fault-small n e in
-    (flagRaised (only n) (c .plant), flag-raised n (c .plant) small, (bitOr (causes (c .plant)) (only n), put-in n (causes (c .plant)) small, rw e))
+    (flagRaised (only n) (c .plant), flag-raised n (c .plant) small, (bitOr (causes (c .plant)) (only n), λ k. put-in (causes (c .plant)) n k small, rw e))
 
 end : (n : ℕ) (c : Card) → isFault n ≡ true → (x : ℕ) × TakenOut n (causes (c .plant)) x × (causeEnded n c .card ≡ withPlant (Plants.withCauses x (c .plant)) c)
 unfolding causeEnded eventOn ended
-end n c e = (bitAnd (causes (c .plant)) (allBut n), taken-out n (causes (c .plant)) (fault-small n e), rw e)
+end n c e = (bitAnd (causes (c .plant)) (allBut n), λ k. taken-out (causes (c .plant)) n k (fault-small n e), rw e)
 
 -- ---- the port's faults: a bit of SioErr, and at MODE 3 flag 14
 port-fault : (bit : ℕ) (c : Card) → bit < 32 → PortFaultLeaves bit c (record { port = record { pending = c .port .pending; numbers = portFaulted (only bit) (coreOf c) .port }; plant = portFaulted (only bit) (coreOf c) .plant })
@@ -57,7 +49,7 @@ unfolding portFaulted portFault
 port-fault bit c small =
     record {
       word = bitOr (sioerr (c .port .numbers)) (only bit);
-      bit-set = put-in bit (sioerr (c .port .numbers)) small;
+      bit-set = λ k. put-in (sioerr (c .port .numbers)) bit k small;
       port = refl;
       at-3 = λ e. rw (eq-eqb (mode (c .plant)) 3 e) (flag-raised 14 (c .plant) (omega arith));
       else = λ n. rw (ne-eqb (mode (c .plant)) 3 n);

@@ -24,6 +24,7 @@ use Rattle.drive.specs.declared.events.Measured.{Measured}
 use Rattle.drive.specs.declared.events.Measured.the-variants.{Frq, Rms, Optime}
 use Rattle.drive.proofs.Laws.{fault-small}
 use Rattle.drive.proofs.Masks.{masks}
+use Rattle.drive.proofs.Flagging.{put-in}
 use Rattle.permit.specs.Refusals.{allowed, permitted}
 use Rattle.service.specs.Write.{followed, applied}
 use Rattle.master_reply.specs.Told.{Within}
@@ -35,16 +36,16 @@ abbrev Only : (ℕ → Type 0) → ℕ → Type 0
 Only P mask = (mask < 2 ^ 32) × ((k : ℕ) → k < 32 → flagged k mask ≡ true → P k)
 
 -- a number that has it is put in
-put-in : (P : ℕ → Type 0) (mask n : ℕ) → n < 32 → P n → Only P mask → Only P (bitOr mask (only n))
-put-in P mask n small new old = (or-lt 32 mask (only n) (old .0) (pow-lt small), λ k h e. go k h (either-out (flagged k mask) (flagged k (only n)) (sym (masks .joined k mask (only n)) ∙ e)))
+only-with : (P : ℕ → Type 0) (mask n : ℕ) → n < 32 → P n → Only P mask → Only P (bitOr mask (only n))
+only-with P mask n small new old = (or-lt 32 mask (only n) (old .0) (pow-lt small), λ k h e. go k h (either-out (flagged k mask) (eqb k n) (sym (put-in mask n k small h) ∙ e)))
   where
-    go : (k : ℕ) → k < 32 → (flagged k mask ≡ true) ⊎ (flagged k (only n) ≡ true) → P k
+    go : (k : ℕ) → k < 32 → (flagged k mask ≡ true) ⊎ (eqb k n ≡ true) → P k
     go k h (inl y) = old .1 k h y
-    go k h (inr y) = subst P (sym (eqb-true k n (sym (masks .alone n k small h) ∙ y))) new
+    go k h (inr y) = subst P (sym (eqb-true k n y)) new
 
 -- numbers are taken out
-taken-out : (P : ℕ → Type 0) (mask rest : ℕ) → Only P mask → Only P (bitAnd mask rest)
-taken-out P mask rest old =
+only-less : (P : ℕ → Type 0) (mask rest : ℕ) → Only P mask → Only P (bitAnd mask rest)
+only-less P mask rest old =
     (omega (arith, and-le-l mask rest, old .0), λ k h e. old .1 k h (both-out (flagged k mask) (flagged k rest) (sym (masks .common k mask rest) ∙ e) .0))
 
 -- no number is in 0
@@ -188,17 +189,17 @@ module _ (q : Numbers) where
   unfolding flagRaised
   raised-flag p n small new at-3 keep =
       halted-keeps p Flags _ keep (λ h. omega (arith, h))
-      (put-in FaultOr14 (flags p) n small new (keep .0 .flags), λ b. go (either-out (flagged 14 (flags p)) (flagged 14 (only n)) (sym (masks .joined 14 (flags p) (only n)) ∙ b)))
+      (only-with FaultOr14 (flags p) n small new (keep .0 .flags), λ b. go (either-out (flagged 14 (flags p)) (eqb 14 n) (sym (put-in (flags p) n 14 small (omega arith)) ∙ b)))
     where
-      go : (flagged 14 (flags p) ≡ true) ⊎ (flagged 14 (only n) ≡ true) → mode p ≡ 3
+      go : (flagged 14 (flags p) ≡ true) ⊎ (eqb 14 n ≡ true) → mode p ≡ 3
       go (inl y) = keep .0 .bus y
-      go (inr y) = at-3 (sym (eqb-true 14 n (sym (masks .alone n 14 small (omega arith)) ∙ y)))
+      go (inr y) = at-3 (sym (eqb-true 14 n y))
 
   -- some are cleared; where SCMD is not 0, there were none
   cleared-keeps : (p : Plant) (rest : ℕ) → Fits p → Fits (set p Flags (bitAnd (flags p) rest))
   cleared-keeps p rest keep =
       set-keeps p Flags _ keep
-      (taken-out FaultOr14 (flags p) rest (keep .0 .flags), λ b. keep .0 .bus (both-out (flagged 14 (flags p)) (flagged 14 rest) (sym (masks .common 14 (flags p) rest) ∙ b) .0))
+      (only-less FaultOr14 (flags p) rest (keep .0 .flags), λ b. keep .0 .bus (both-out (flagged 14 (flags p)) (flagged 14 rest) (sym (masks .common 14 (flags p) rest) ∙ b) .0))
       (λ r. ap (λ (x : ℕ). bitAnd x rest) (keep .0 .commanded r .2) ∙ and-zero-l rest)
 
   -- by a read of Inv St, by a read of SioErr, and by the broadcast stop
@@ -270,11 +271,11 @@ module _ (q : Numbers) where
   unfolding raised
   raised-keeps n p keep =
       pick-both (λ (e : Event). Fits (e .plant)) (isFault n)
-      (λ f. set-keeps _ Causes _ (raised-flag p n (fault-small n f) (inl f) (λ e. absurd (14-no-fault (sym (ap isFault e) ∙ f))) keep) (put-in Fault (causes p) n (fault-small n f) f (keep .0 .causes)) tt) (λ _. keep)
+      (λ f. set-keeps _ Causes _ (raised-flag p n (fault-small n f) (inl f) (λ e. absurd (14-no-fault (sym (ap isFault e) ∙ f))) keep) (only-with Fault (causes p) n (fault-small n f) f (keep .0 .causes)) tt) (λ _. keep)
 
   pub ended-keeps : (n : ℕ) (p : Plant) → Fits p → Fits (ended n p .plant)
   unfolding ended
-  ended-keeps n p keep = pick-both (λ (e : Event). Fits (e .plant)) (isFault n) (λ _. set-keeps p Causes _ keep (taken-out Fault (causes p) _ (keep .0 .causes)) tt) (λ _. keep)
+  ended-keeps n p keep = pick-both (λ (e : Event). Fits (e .plant)) (isFault n) (λ _. set-keeps p Causes _ keep (only-less Fault (causes p) _ (keep .0 .causes)) tt) (λ _. keep)
 
   -- "SCMD becomes 0 when DIN1 goes inactive"
   pub active-keeps : (active : Bool) (p : Plant) → Fits p → Fits (withActive active p)

@@ -19,10 +19,10 @@ use Rattle.drive.proofs.Laws.{fault-small}
 use Rattle.drive.proofs.Masks.{masks}
 
 -- a mask with number n put in, and with it taken out
-put-in : (mask n k : ℕ) → n < 32 → k < 32 → flagged k (bitOr mask (only n)) ≡ either (flagged k mask) (eqb k n)
+pub put-in : (mask n k : ℕ) → n < 32 → k < 32 → flagged k (bitOr mask (only n)) ≡ either (flagged k mask) (eqb k n)
 put-in mask n k g h = masks .joined k mask (only n) ∙ ap (either (flagged k mask)) (masks .alone n k g h)
 
-taken-out : (mask n k : ℕ) → n < 32 → k < 32 → flagged k (bitAnd mask (allBut n)) ≡ both (flagged k mask) (not (eqb k n))
+pub taken-out : (mask n k : ℕ) → n < 32 → k < 32 → flagged k (bitAnd mask (allBut n)) ≡ both (flagged k mask) (not (eqb k n))
 taken-out mask n k g h = masks .common k mask (allBut n) ∙ ap (both (flagged k mask)) (masks .others n k g h)
 
 -- ---- what was set is read back, and what was not is as it was
