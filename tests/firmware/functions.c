@@ -1,4 +1,4 @@
-/* Every function of linecard.h, the library's own and the wrappers, held against document 01. What does not hold is a line: where, what was seen, and
+/* Every function of linecard.h, the library's own and the wrappers, held against documents 01 and 02. What does not hold is a line: where, what was seen, and
  * what should be. The memory is the host's: its fields are read and put through the header's structs. */
 #include <stdio.h>
 #include <string.h>
@@ -354,7 +354,12 @@ static void bytes_from_the_line(void)
     message("case 2, NFO", CARD_NFO, TEXT("\x04!E001D\x05"), CARD_DONE, TEXT("!\x02" "E001D=0032\x03\x0F"), CARD_WORDS, 0);
     message("case 3, NFO", CARD_NFO, TEXT("\x04!\x02" "E001D=0064\x03\x0C"), CARD_DONE, TEXT("!\x06"), CARD_ACCEL, 100);
     message("NFO, another address", CARD_NFO, TEXT("\x04\"E001D\x05"), CARD_NOT_OURS, TEXT(""), CARD_WORDS, 0);
+    message("NFO, small letters, a question", CARD_NFO, TEXT("\x04!E001d\x05"), CARD_DONE, TEXT("!\x02" "E001D=0032\x03\x0F"), CARD_WORDS, 0);
+    message("NFO, small letters, a write", CARD_NFO, TEXT("\x04!\x02" "E001d=00fa\x03\x29"), CARD_DONE, TEXT("!\x06"), CARD_ACCEL, 250);
+    message("NFO, a small prefix", CARD_NFO, TEXT("\x04!e001D\x05"), CARD_NO_ROW, TEXT("!\x15"), CARD_WORDS, 0);
+    message("NFO, a value that is not hex", CARD_NFO, TEXT("\x04!\x02" "E001D=00g4\x03\x5D"), CARD_MALFORMED, TEXT("!\x15"), CARD_WORDS, 0);
     scraps("case 2, NFO, in scraps", CARD_NFO, TEXT("\x04!E001D\x05"), 3, TEXT("!\x02" "E001D=0032\x03\x0F"));
+    scraps("NFO, small letters, in scraps", CARD_NFO, TEXT("\x04!E001d\x05"), 7, TEXT("!\x02" "E001D=0032\x03\x0F"));
 
     message("RTU, a read", CARD_RTU, TEXT("\x01\x03\x02\x94\x00\x01\xC4\x5E"), CARD_DONE, TEXT("\x01\x03\x02\x00\x01\x79\x84"), CARD_WORDS, 0);
     message("RTU, a write", CARD_RTU, TEXT("\x01\x06\x06\xDC\x00\x64\x49\x53"), CARD_DONE, TEXT("\x01\x06\x06\xDC\x00\x64\x49\x53"), CARD_ACCEL, 100);
@@ -365,7 +370,11 @@ static void bytes_from_the_line(void)
     message("case 7, ASCII, a wrong span", CARD_ASCII, TEXT(":0103070C0001E8\r\n"), CARD_NO_ROW, TEXT(":0183027A\r\n"), CARD_WORDS, 0);
     message("case 7, ASCII, a broadcast read", CARD_ASCII, TEXT(":000302A4000156\r\n"), CARD_NOT_OURS, TEXT(""), CARD_WORDS, 0);
     message("ASCII, a write", CARD_ASCII, TEXT(":010606DC0064B3\r\n"), CARD_DONE, TEXT(":010606DC0064B3\r\n"), CARD_ACCEL, 100);
+    message("ASCII, small letters", CARD_ASCII, TEXT(":010606dc0064b3\r\n"), CARD_DONE, TEXT(":010606DC0064B3\r\n"), CARD_ACCEL, 100);
+    message("ASCII, small letters, a wrong span", CARD_ASCII, TEXT(":0103070c0001e8\r\n"), CARD_NO_ROW, TEXT(":0183027A\r\n"), CARD_WORDS, 0);
+    message("ASCII, the LRC alone in small letters", CARD_ASCII, TEXT(":010307000001f4\r\n"), CARD_DONE, TEXT(":0103020001F9\r\n"), CARD_WORDS, 0);
     scraps("case 7, ASCII, in scraps", CARD_ASCII, TEXT(":01030294000165\r\n"), 6, TEXT(":0103020001F9\r\n"));
+    scraps("ASCII, small letters, in scraps", CARD_ASCII, TEXT(":010307000001f4\r\n"), 14, TEXT(":0103020001F9\r\n"));
 }
 
 /* "The register data of a well-made 06 or 16 (CRC, length and count right, any address) is handed back as a part of the caller's frame; for other bytes, an
@@ -407,6 +416,6 @@ int main(void)
     tick();
     bytes_from_the_line();
     register_data();
-    printf("functions: %lu numbers and bytes are as document 01 says, %lu are not\n", held, wrong);
+    printf("functions: %lu numbers and bytes are as the documents say, %lu are not\n", held, wrong);
     return wrong != 0;
 }

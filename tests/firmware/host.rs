@@ -152,7 +152,7 @@ impl Host {
         }
     }
 
-    /// The library's answers to a command, or none where it is the master's.
+    /// The library's answers to a command, or none where it is the master's or no command.
     fn answers(&mut self, line: &str) -> Option<Vec<String>> {
         let words: Vec<&str> = line.split(' ').collect();
         let answer = match words[..] {

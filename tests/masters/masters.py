@@ -1,6 +1,6 @@
 """Real masters, and bytes by hand, against the program `line` on a pair of ptys.
 
-Usage: masters.py PROGRAM, where `PROGRAM line ..` runs the program. Exit status 0 where each answer, and each line printed, is what document 01 says.
+Usage: masters.py PROGRAM, where `PROGRAM line ..` runs the program. Exit status 0 where each answer, and each line printed, is what documents 01 and 02 say.
 A master that this machine does not have is skipped, with the reason.
 """
 import os
@@ -72,12 +72,31 @@ class Mbpoll:
         pass
 
 
+def mixed(text):
+    """The low digit of each pair in small letters."""
+    turned = bytearray(text)
+    turned[2::2] = turned[2::2].lower()
+    return bytes(turned)
+
+
+# pymodbus writes capitals, as we do
+LETTERS = {"capitals": bytes, "small letters": bytes.lower, "mixed letters": mixed}
+
+
 class Pymodbus:
-    def __init__(self, device, framer):
+    """pymodbus. What it sends goes on the line in the letters wanted, and must be the request that is asked for."""
+
+    def __init__(self, device, framer, framed, letters=bytes):
         from pymodbus.client import ModbusSerialClient
 
         self.client = ModbusSerialClient(device, framer=framer, baudrate=9600, parity="N", timeout=10, retries=0)
         assert self.client.connect(), "pymodbus does not open the port"
+        self.framed, self.letters, self.sent = framed, letters, None
+        self.put, self.client.send = self.client.send, self.send
+
+    def send(self, request):
+        self.sent = self.letters(request)
+        return self.put(self.sent)
 
     def can_ask(self, step):
         return True
@@ -91,6 +110,7 @@ class Pymodbus:
             COILS: self.client.read_coils,
         }[step.function]
         told = routine(step.register, step.asked[0] if step.function == ONE else step.asked, slave=1)
+        assert self.sent == self.letters(self.framed(b"\1" + step.request())), "pymodbus asked %s" % self.sent
         if told.isError():
             assert hasattr(told, "exception_code"), "pymodbus heard no reply: %s" % told
             assert told.function_code == 0x80 | step.function, "pymodbus heard function %d" % told.function_code
@@ -104,13 +124,13 @@ class Pymodbus:
         self.client.close()
 
 
-def play(program, protocol, name, master_on):
-    """Plays the steps by a master, and holds each answer, and at the end each line printed, to document 01."""
+def play(program, protocol, name, master_on, letters=bytes):
+    """Plays the steps by a master, and holds each answer, and at the end each line printed, to the documents. Whatever letters come, ours are capitals."""
     framed = FRAMED[protocol]
     asked, expected = 0, []
     with Port(program, protocol, SETTINGS[protocol]) as port:
         master = master_on(port.device)
-        for step in steps.steps(framed):
+        for step in steps.steps(lambda body: letters(framed(body))):
             if isinstance(step, Put):
                 port.put(step.data)
                 port.silent(SILENCE)
@@ -128,7 +148,7 @@ def play(program, protocol, name, master_on):
                 assert port.reply(len(right)) == right, str(step)
         master.close()
         same_lines(name, port.lines(), expected)
-    print("masters: %s: %d requests answered as document 01 says, %d lines" % (name, asked, len(expected)))
+    print("masters: %s: %d requests answered as the documents say, %d lines" % (name, asked, len(expected)))
 
 
 def same_lines(name, printed, expected):
@@ -158,7 +178,7 @@ def pymodbus_rtu(program):
         return pymodbus_missing()
     from pymodbus.framer.rtu_framer import ModbusRtuFramer
 
-    play(program, "rtu", "pymodbus on RTU", lambda device: Pymodbus(device, ModbusRtuFramer))
+    play(program, "rtu", "pymodbus on RTU", lambda device: Pymodbus(device, ModbusRtuFramer, steps.rtu))
 
 
 def pymodbus_ascii(program):
@@ -166,7 +186,8 @@ def pymodbus_ascii(program):
         return pymodbus_missing()
     from pymodbus.framer.ascii_framer import ModbusAsciiFramer
 
-    play(program, "ascii", "pymodbus on ASCII", lambda device: Pymodbus(device, ModbusAsciiFramer))
+    for name, letters in LETTERS.items():
+        play(program, "ascii", "pymodbus on ASCII in " + name, lambda device: Pymodbus(device, ModbusAsciiFramer, steps.ascii, letters), letters)
 
 
 def two_scraps(program):
@@ -196,14 +217,18 @@ def enquiry(parameter, address=1):
     return b"\4" + bytes([32 + address]) + parameter.encode() + b"\5"
 
 
+def text(parameter, value):
+    """What stands after 02, with its BCC; the value is a number, which is written in capitals, or its characters."""
+    body = b"%s=%s\3" % (parameter.encode(), value if isinstance(value, bytes) else b"%04X" % value)
+    return body + bcc(body)
+
+
 def select(parameter, value, address=1):
-    body = b"%s=%04X\3" % (parameter.encode(), value)
-    return b"\4" + bytes([32 + address]) + b"\2" + body + bcc(body)
+    return b"\4" + bytes([32 + address]) + b"\2" + text(parameter, value)
 
 
 def reply(parameter, value):
-    body = b"%s=%04X\3" % (parameter.encode(), value)
-    return b"\x21\2" + body + bcc(body)
+    return b"\x21\2" + text(parameter, value)
 
 
 ACK, NAK = b"\x21\6", b"\x21\x15"
@@ -233,7 +258,7 @@ def nfo_exchanges():
         (accel + select("E001C", 0x32), reply("E001D", 0x93) + ACK, [0, 0]),
         # read-only, not hex, no such parameter
         (select("E00B6", 1), NAK, [3]),
-        (b"\4\x21\2E001D=00G4\3" + bcc(b"E001D=00G4\3"), NAK, [8]),
+        (select("E001D", b"00G4"), NAK, [8]),
         (enquiry("E0019"), NAK, [2]),
         # SCMD only at MODE 3, and its run values only with DIN1 active, which it is not at start
         (enquiry("E00E9"), reply("E00E9", 24), [0]),
@@ -249,20 +274,39 @@ def nfo_exchanges():
     ]
 
 
+def small_letters():
+    """Exchanges as above, as the masters on the east line have them."""
+    return [
+        (enquiry("E00a9"), reply("E00A9", 1), [0]),
+        (select("E001d", b"00fa"), ACK, [0]),
+        (enquiry("E001d"), reply("E001D", 0xFA), [0]),
+        (select("E0039", b"b1E0"), ACK, [0]),
+        (select("E0039", b"b1df"), NAK, [4]),
+        (enquiry("E0039"), reply("E0039", 0xB1E0), [0]),
+        (select("E00aD", b"000f"), NAK, [4]),
+        # a small prefix, and characters that are no digits
+        (enquiry("e00a9"), NAK, [2]),
+        (enquiry("E00g9"), NAK, [2]),
+        (select("E001d", b"00g4"), NAK, [8]),
+        (select("E001d", b"00`4"), NAK, [8]),
+        # the BCC is over the bytes as they come: that of the capitals is wrong here
+        (select("E001D", 0x64).replace(b"D", b"d"), b"", []),
+        (enquiry("E001D"), reply("E001D", 0xFA), [0]),
+    ]
+
+
 def nfo_serial(program):
+    whole = [([data], right, outcomes) for data, right, outcomes in nfo_exchanges() + small_letters()]
+    by_bytes = [([bytes([byte]) for byte in data], right, outcomes) for data, right, outcomes in small_letters()]
     expected = []
     with Port(program, "nfo", SETTINGS["nfo"]) as port:
-        exchanges = nfo_exchanges()
-        for data, right, outcomes in exchanges:
-            port.put(data)
-            check_reply(port, data, right)
+        for scraps, right, outcomes in whole + by_bytes:
+            for scrap in scraps:
+                port.put(scrap)
+            check_reply(port, b"".join(scraps), right)
             expected += line_texts(right, outcomes)
-        for byte in enquiry("E001D"):  # byte by byte
-            port.put(bytes([byte]))
-        check_reply(port, b"an ENQUIRY byte by byte", reply("E001D", 75))
-        expected += line_texts(reply("E001D", 75), [0])
         same_lines("NFO serial", port.lines(), expected)
-    print("masters: NFO serial: %d exchanges answered as document 01 says, %d lines" % (len(exchanges) + 1, len(expected)))
+    print("masters: NFO serial: %d exchanges answered as the documents say, %d lines" % (len(whole + by_bytes), len(expected)))
 
 
 def check_reply(port, data, right):

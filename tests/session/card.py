@@ -1,4 +1,4 @@
-"""A card on an NFO line, written from document 01: what it takes from a stream of bytes, and what it answers.
+"""A card on an NFO line, written from documents 01 and 02: what it takes from a stream of bytes, and what it answers.
 
 It knows the rows that NFO serial reaches, and a card that hears no host event: DIN1 stays inactive and no fault is raised, so the card
 never runs, and outcomes 5 and 6 do not come about.
@@ -54,6 +54,11 @@ def bcc(data):
     return total
 
 
+def in_capitals(parameter):
+    """The parameter as the rows and replies have it. "The prefix E stays a capital": a small one is no row's."""
+    return parameter[0] + parameter[1:].upper()
+
+
 def messages(stream):
     """What the left-to-right reading takes: (where it ends, ADR, parameter, value or None) for each message, in order."""
     taken, place = [], 0
@@ -84,6 +89,7 @@ class Card:
 
     def served(self, adr, parameter, value):
         """The outcome and the reply's bytes."""
+        parameter = in_capitals(parameter)
         broadcast = adr == 95 + 32
         ours = adr in (32, self.held["SiAdr"] + 32) and not broadcast
         if not (ours or broadcast and value is not None):
@@ -113,7 +119,7 @@ class Card:
         name, allowed, _ = ROWS[parameter]
         if allowed is None:
             return 3
-        if not re.fullmatch("[0-9A-F]{4}", digits):
+        if not re.fullmatch("[0-9A-Fa-f]{4}", digits):
             return 8
         number = int(digits, 16)
         if number > 32767:

@@ -3,32 +3,24 @@
 Usage: make.py FOLDER, which gets the files `stdin` and `stdout`. The bytes are the same every time.
 """
 import os
-import random
 import sys
 
 import card
 
-
-class Draw:
-    """Numbers that depend on the seed alone: `random` is the one method whose sequence Python keeps from version to version."""
-
-    def __init__(self, seed):
-        self.random = random.Random(seed).random
-
-    def below(self, n):
-        return int(self.random() * n)
-
-    def one_of(self, things):
-        return things[self.below(len(things))]
+sys.path.append(os.path.dirname(os.path.dirname(os.path.abspath(__file__))))
+from draw import Draw
 
 
 def enquiry(address, parameter):
     return bytes([0x04, address + 32]) + parameter.encode() + b"\x05"
 
 
+def digits(number):
+    return "%04X" % (number % 65536)
+
+
 def select(address, parameter, value):
-    digits = value if isinstance(value, str) else "%04X" % (value % 65536)
-    body = ("%s=%s\x03" % (parameter, digits)).encode()
+    body = ("%s=%s\x03" % (parameter, value if isinstance(value, str) else digits(value))).encode()
     return bytes([0x04, address + 32, 0x02]) + body + bytes([card.bcc(body)])
 
 
@@ -58,8 +50,9 @@ EDGES = {
 ROWS = list(card.ROWS)
 WRITABLE = list(EDGES)  # but for SiAdr, which has a kind of its own
 READ_ONLY = ["E00E8", "E00E9", "E00AC", "E00B6"]
-UNKNOWN = ["E0019", "E00A7", "E00FF", "EFFFF", "e001d", "E001d", "F001D", "     ", "~~~~~", "E 01D"]
-NOT_HEX = ["00g4", "00a4", "    ", "-001", "+001", "0x64", "00 4", "\x7f\x7f\x7f\x7f"]
+UNKNOWN = ["E0019", "E00A7", "E00ff", "EFFFF", "e001d", "e00A9", "F001D", "f001d", "E001g", "E001G", "E00`9", "E00@9", "     ", "~~~~~", "E 01D"]
+NOT_HEX = ["00g4", "00G4", "00@4", "00`4", "    ", "-001", "+001", "0x64", "00 4", "\x7f\x7f\x7f\x7f"]
+CHARACTERS = [chr(code) for code in range(0x20, 0x80)]
 ENDS_IN_04 = [select(1, "E001D", value) for value in range(2, 5001) if select(1, "E001D", value)[-1] == 0x04]
 
 
@@ -72,7 +65,7 @@ def written(draw):
     return select(1, parameter, draw.one_of(EDGES[parameter]))
 
 
-def small(draw):
+def low(draw):
     return select(1, draw.one_of(WRITABLE), draw.below(130))
 
 
@@ -80,8 +73,22 @@ def wide(draw):
     return select(1, draw.one_of(WRITABLE), draw.below(65536))
 
 
+def small_letters(draw, capitals):
+    """The same digits in small letters, or each letter as it is drawn."""
+    return draw.one_of([capitals.lower(), "".join(draw.one_of([digit, digit.lower()]) for digit in capitals)])
+
+
+def told_small(draw):
+    return enquiry(1, "E" + small_letters(draw, draw.one_of(ROWS)[1:]))
+
+
+def written_small(draw):
+    parameter = draw.one_of(WRITABLE)
+    return select(1, "E" + small_letters(draw, parameter[1:]), small_letters(draw, digits(draw.one_of(EDGES[parameter]))))
+
+
 def message(draw):
-    return draw.one_of([told, written, small, wide])(draw)
+    return draw.one_of([told, written, low, wide, told_small, written_small])(draw)
 
 
 def no_row(draw):
@@ -136,6 +143,12 @@ def ends_in_04(draw):
     return draw.one_of(ENDS_IN_04) + draw.one_of([after, after[1:]])
 
 
+def turned_small(draw):
+    """A write whose letters turn small, while its BCC stays that of the capitals: an odd number of letters spoils it."""
+    whole = written(draw)
+    return whole[:4] + whole[4:13].lower() + whole[13:]
+
+
 def lost(draw):
     whole = message(draw)
     place = draw.below(len(whole))
@@ -170,13 +183,20 @@ def others_reply(draw):
     return draw.one_of([b"\x22\x02" + body + bytes([card.bcc(body)]), b"\x22\x06", b"\x22\x15"])
 
 
-KINDS = [told, told, written, written, small, wide, no_row, read_only, not_hex, other_address, address_0, to_all, new_address, new_mode, drive,
-         ends_in_04, lost, lost, damaged, damaged, doubled, begun, noise, noise, others_reply]
+KINDS = [told, told, written, written, low, wide, told_small, written_small, written_small, turned_small, no_row, no_row, read_only, not_hex, not_hex,
+         other_address, address_0, to_all, new_address, new_mode, drive, ends_in_04, lost, lost, damaged, damaged, doubled, begun, noise, noise, others_reply]
+
+
+def every_character():
+    """Each character of a message as a digit: the last one and the one before it of a parameter, and one of Fr-Max's value."""
+    asked = b"".join(enquiry(1, "E000" + one) + enquiry(1, "E00" + one + "8") for one in CHARACTERS)
+    return asked + b"".join(select(1, "E000B", "00" + one + "0") + enquiry(1, "E000b") for one in CHARACTERS)
 
 
 def table():
-    """Each row is asked, written at all its edges, and asked again; Setpoint at each Mode; and SiAdr at its own edges."""
-    asked = b"".join(enquiry(1, parameter) for parameter in ROWS)
+    """Each row is asked in capitals, in small letters and with a small prefix, written at all its edges, and asked again; Setpoint at each Mode; and SiAdr at
+    its own edges."""
+    asked = b"".join(enquiry(1, parameter) + enquiry(1, "E" + parameter[1:].lower()) + enquiry(1, parameter.lower()) for parameter in ROWS)
     edges = b"".join(select(1, parameter, number) + enquiry(1, parameter) for parameter in WRITABLE for number in EDGES[parameter])
     modes = b"".join(select(1, "E0030", mode) + b"".join(select(1, "E001E", number) for number in EDGES["E001E"]) for mode in (0, 1, 2, 3))
     address = b"".join(select(0, "E00A9", number) + enquiry(0, "E00A9") for number in (-1, 96, 95, 94, 0, 1))
@@ -191,7 +211,7 @@ def stream(seed, pieces):
 
 
 def main():
-    heard = table() + stream(9, 480)
+    heard = table() + every_character() + stream(9, 480)
     with open(os.path.join(sys.argv[1], "stdin"), "wb") as file:
         file.write(heard)
     with open(os.path.join(sys.argv[1], "stdout"), "w") as file:

@@ -6,7 +6,7 @@ use Prim.Native.Nat.{ℕ}
 use Rattle.base.specs.Bytes.{same}
 use Rattle.stream.specs.Reading.{Yield}
 use Rattle.stream.specs.Automaton.{feed, feedAll}
-use Rattle.hex.specs.Hex.{isHex, allHex, digitValue, digitOf, pairValue, hexOf, bytesOf}
+use Rattle.hex.specs.Hex.{isHex, allHex, digitValue, digitOf, capitalOf, capitals, pairValue, hexOf, bytesOf}
 use Rattle.checks.specs.Lrc.{sumOf, addsToZero, lrcOf}
 use Rattle.modbus_words.specs.Words.{wordBytes, wordAt}
 use Rattle.modbus.specs.Request.{reads, asked, requestOf}
@@ -16,8 +16,8 @@ use Rattle.modbus.specs.declared.replies.Answer.{Answer}
 use Rattle.ascii.specs.Ascii.{textOf, bytesIn, counted, right, formed, free, lrcBegun, full, goesOn, begun, viable, ascii, asciiOf, addressAmong, unitAmong}
 use Rattle.ascii.specs.Cases.{requests, replies, streams}
 
-pub all-formed : map formed (map (λ (t : List ℕ × ℕ × Request). t .0) requests ++ map (λ (t : List ℕ × ℕ × Answer). t .0) replies) ≡ true ∷ true ∷ true ∷ true ∷ true ∷ []
-unfolding formed same textOf bytesIn counted right bytesOf pairValue digitValue hexOf digitOf addsToZero sumOf
+pub all-formed : map formed (map (λ (t : List ℕ × ℕ × Request). t .0) requests ++ map (λ (t : List ℕ × ℕ × Answer). t .0) replies) ≡ true ∷ true ∷ true ∷ true ∷ true ∷ true ∷ []
+unfolding formed same textOf capitals capitalOf bytesIn counted right bytesOf pairValue digitValue hexOf digitOf addsToZero sumOf
 all-formed = refl
 
 pub requests-read : map (λ (t : List ℕ × ℕ × Request). (t .0, addressAmong (bytesIn (t .0)), requestOf (unitAmong (bytesIn (t .0))))) requests ≡ requests
@@ -29,5 +29,5 @@ unfolding asciiOf textOf hexOf digitOf lrcOf sumOf unitOf wordBytes
 replies-written = refl
 
 pub streams-fed : map (λ (t : List ℕ × Yield). feedAll ascii 0 [] (t .0)) streams ≡ map (λ (t : List ℕ × Yield). t .1) streams
-unfolding feedAll feed formed viable begun goesOn free lrcBegun full same textOf bytesIn counted right isHex allHex bytesOf pairValue digitValue hexOf digitOf addsToZero sumOf lrcOf
+unfolding feedAll feed formed viable begun goesOn free lrcBegun full same textOf capitals capitalOf bytesIn counted right isHex allHex bytesOf pairValue digitValue hexOf digitOf addsToZero sumOf lrcOf
 streams-fed = refl

@@ -1,5 +1,6 @@
 pub mod Cases
 pub mod Message
+pub mod Limit
 pub mod Becoming
 pub mod Lawful
 pub mod Step

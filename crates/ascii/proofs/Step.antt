@@ -3,7 +3,7 @@
 use mathlib.Core.Path.{_≡_, refl, sym, ap, _∙_}
 use mathlib.Core.Logic.{⊎-elim}
 use mathlib.Core.Bool.{Bool, true, false}
-use mathlib.Core.List.{List, [], _∷_, _++_, append-nil, append-cancel-right, head-eq-of-cons-eq, tail-eq-of-cons-eq}
+use mathlib.Core.List.{List, [], _∷_, _++_, append-cancel-right, head-eq-of-cons-eq, tail-eq-of-cons-eq}
 use Prim.Native.Nat.{ℕ, zero, suc, _+_, _-_, _*_, _/_, _≤_, _<_}
 use native.Mathlib.Omega.{arith}
 use borrow.Author.Tests.{eq-eqb, ne-eqb, eqb-true, lt-leb}
@@ -13,12 +13,13 @@ use lib.Seq.{getD-at, append-snoc}
 use Rattle.base.specs.Choice.{both, either}
 use Rattle.base.proofs.Tests.{both-out, both-in, either-out, either-left, not-both, is-false, same-test}
 use Rattle.stream.proofs.Lists.{append-cons-ne-nil}
-use Rattle.hex.specs.Hex.{isHex, allHex, digitOf, hexOf, bytesOf}
-use Rattle.hex.proofs.RoundTrip.{hex-other, cr-not-hex, length-hex, all-append, bytes-of-hex, hex-whole, bytes-append}
+use Rattle.hex.specs.Hex.{isHex, allHex, digitOf, capitalOf, bytesOf}
+use Rattle.hex.proofs.RoundTrip.{Whole, hex-other, cr-not-hex, all-append, hex-whole}
 use Rattle.checks.specs.Lrc.{addsToZero, lrcOf}
-use Rattle.ascii.specs.Ascii.{textOf, counted, right, formed, free, lrcBegun, full, goesOn, begun, viable}
-use Rattle.ascii.proofs.Message.{text-length, counted-out, counted-in, message-out}
-use Rattle.ascii.proofs.Becoming.{free-out, free-in, begun-out, full-out, one-none, even-formed}
+use Rattle.ascii.specs.Ascii.{counted, right, formed, free, lrcBegun, full, goesOn, begun, viable}
+use Rattle.ascii.proofs.Message.{whole-bytes, counted-out, counted-in, message-out}
+use Rattle.ascii.proofs.Limit.{one-none}
+use Rattle.ascii.proofs.Becoming.{free-out, free-in, begun-out, full-out, even-formed}
 
 -- the last byte is CR
 abbrev pub endsInCr : List ℕ → Bool
@@ -44,15 +45,20 @@ hex-at (c ∷ d) (suc i) e h = hex-at d i (both-out (isHex c) (allHex d) e .1) (
 
 -- ---- which of the two a beginning is
 -- a message without its last byte ends in CR, and that byte is LF
-pub message-ends : (p : List ℕ) (b : ℕ) → formed (p ++ b ∷ []) ≡ true → (bytes : List ℕ) × (p ≡ 0x3A ∷ hexOf bytes ++ 0x0D ∷ []) × (b ≡ 0x0A)
-unfolding textOf
+pub record Ends (p : List ℕ) (b : ℕ) : Type 0 where
+  pub digits : List ℕ
+  pub whole : Whole digits
+  pub text : p ≡ 0x3A ∷ digits ++ 0x0D ∷ []
+  pub lf : b ≡ 0x0A
+
+pub message-ends : (p : List ℕ) (b : ℕ) → formed (p ++ b ∷ []) ≡ true → Ends p b
 message-ends p b e =
     let m = message-out (p ++ b ∷ []) e in
-    let r = snoc-parts p (0x3A ∷ hexOf (m .bytes) ++ 0x0D ∷ []) b 0x0A (m .text ∙ ap (λ (q : List ℕ). 0x3A ∷ q) (sym (append-snoc (hexOf (m .bytes)) 0x0D (0x0A ∷ [])))) in
-    (m .bytes, r .0, r .1)
+    let r = snoc-parts p (0x3A ∷ m .digits ++ 0x0D ∷ []) b 0x0A (m .text ∙ ap (λ (q : List ℕ). 0x3A ∷ q) (sym (append-snoc (m .digits) 0x0D (0x0A ∷ [])))) in
+    record { digits = m .digits; whole = m .whole; text = r .0; lf = r .1 }
 
-ends-cr : (p bytes : List ℕ) → p ≡ 0x3A ∷ hexOf bytes ++ 0x0D ∷ [] → endsInCr p ≡ true
-ends-cr p bytes e = rw e (eq-eqb _ 0x0D (last-is (0x3A ∷ hexOf bytes) 0x0D))
+ends-cr : (p d : List ℕ) → p ≡ 0x3A ∷ d ++ 0x0D ∷ [] → endsInCr p ≡ true
+ends-cr p d e = rw e (eq-eqb _ 0x0D (last-is (0x3A ∷ d) 0x0D))
 
 begun-ends : (p : List ℕ) → begun p ≡ true → endsInCr p ≡ false
 unfolding begun
@@ -71,7 +77,7 @@ begun-ends (x ∷ d) e =
 pub still-begun : (p : List ℕ) → viable p ≡ true → endsInCr p ≡ false → begun p ≡ true
 unfolding viable
 still-begun p e n = ⊎-elim (λ h. h)
-    (λ h. let r = message-ends p 0x0A h in absurd (not-both (ends-cr p (r .0) (r .1)) n))
+    (λ h. let r = message-ends p 0x0A h in absurd (not-both (ends-cr p (r .digits) (r .text)) n))
     (either-out (begun p) (formed (p ++ 0x0A ∷ [])) e)
 
 pub wants-lf : (p : List ℕ) → viable p ≡ true → endsInCr p ≡ true → formed (p ++ 0x0A ∷ []) ≡ true
@@ -95,7 +101,7 @@ pub viable-length : (p : List ℕ) → viable p ≡ true → length p ≤ 512
 unfolding viable
 viable-length p e = ⊎-elim
     (λ h. omega (arith, begun-length p h))
-    (λ h. let m = message-out (p ++ 0x0A ∷ []) h in omega (arith, m .high, ap length (m .text), text-length (m .bytes), length-append p (0x0A ∷ [])))
+    (λ h. let m = message-out (p ++ 0x0A ∷ []) h in omega (arith, m .high, m .whole, ap length (m .text), length-append (m .digits) (0x0D ∷ 0x0A ∷ []), length-append p (0x0A ∷ [])))
     (either-out (begun p) (formed (p ++ 0x0A ∷ [])) e)
 
 -- CR is no digit
@@ -113,27 +119,27 @@ begun-hex x d e = both-out (allHex d) (goesOn d) (both-out (eqb x 0x3A) (both (a
 module _ (p : List ℕ) (b : ℕ) (v : viable p ≡ true) (cr : endsInCr p ≡ true) where
   pub ended-formed : formed (p ++ b ∷ []) ≡ eqb b 0x0A
   ended-formed = same-test (formed (p ++ b ∷ [])) (eqb b 0x0A)
-      (λ h. eq-eqb b 0x0A (message-ends p b h .2))
+      (λ h. eq-eqb b 0x0A (message-ends p b h .lf))
       (λ h. rw (eqb-true b 0x0A h) (wants-lf p v cr))
 
   pub ended-viable : viable (p ++ b ∷ []) ≡ false
   ended-viable = is-false (viable (p ++ b ∷ [])) (λ h. go (endsInCr (p ++ b ∷ [])) refl h)
     where
-      a : (bytes : List ℕ) × (p ≡ 0x3A ∷ hexOf bytes ++ 0x0D ∷ []) × (_≡_ {A = ℕ} 0x0A 0x0A)
+      a : Ends p 0x0A
       a = message-ends p 0x0A (wants-lf p v cr)
 
       go : (t : Bool) → endsInCr (p ++ b ∷ []) ≡ t → viable (p ++ b ∷ []) ≡ true → ⊥
       go true t h =
           let c = message-ends (p ++ b ∷ []) 0x0A (wants-lf (p ++ b ∷ []) h t) in
-          let q = snoc-parts p (0x3A ∷ hexOf (c .0)) b 0x0D (c .1) in
-          omega (arith, ap length (a .1), ap length (q .0), length-append (hexOf (a .0)) (0x0D ∷ []), length-hex (a .0), length-hex (c .0))
+          let q = snoc-parts p (0x3A ∷ c .digits) b 0x0D (c .text) in
+          omega (arith, ap length (a .text), ap length (q .0), length-append (a .digits) (0x0D ∷ []), a .whole, c .whole)
       go false t h =
-          let q : begun (0x3A ∷ (hexOf (a .0) ++ 0x0D ∷ []) ++ b ∷ []) ≡ true = rw (a .1) at (still-begun (p ++ b ∷ []) h t) in
-          cr-inside (hexOf (a .0)) (b ∷ []) (rw append-snoc at (begun-hex 0x3A ((hexOf (a .0) ++ 0x0D ∷ []) ++ b ∷ []) q))
+          let q : begun (0x3A ∷ (a .digits ++ 0x0D ∷ []) ++ b ∷ []) ≡ true = rw (a .text) at (still-begun (p ++ b ∷ []) h t) in
+          cr-inside (a .digits) (b ∷ []) (rw append-snoc at (begun-hex 0x3A ((a .digits ++ 0x0D ∷ []) ++ b ∷ []) q))
 
 -- ---- before CR: no byte makes a message
 pub begun-formed : (p : List ℕ) (b : ℕ) → begun p ≡ true → formed (p ++ b ∷ []) ≡ false
-begun-formed p b e = is-false (formed (p ++ b ∷ [])) (λ h. let r = message-ends p b h in not-both (ends-cr p (r .0) (r .1)) (begun-ends p e))
+begun-formed p b e = is-false (formed (p ++ b ∷ [])) (λ h. let r = message-ends p b h in not-both (ends-cr p (r .digits) (r .text)) (begun-ends p e))
 
 -- ---- the first byte
 pub first-viable : (b : ℕ) → viable (b ∷ []) ≡ eqb b 0x3A
@@ -143,7 +149,7 @@ first-viable b = rw (is-false (formed (b ∷ 0x0A ∷ [])) short) (alone (eqb b 
     short : formed (b ∷ 0x0A ∷ []) ≡ true → ⊥
     short h =
         let r = message-ends (b ∷ []) 0x0A h in
-        append-cons-ne-nil (hexOf (r .0)) 0x0D [] (sym (tail-eq-of-cons-eq (r .1)))
+        append-cons-ne-nil (r .digits) 0x0D [] (sym (tail-eq-of-cons-eq (r .text)))
 
     alone : (t : Bool) → either (both t true) false ≡ t
     alone true = refl
@@ -162,7 +168,7 @@ module _ (x : ℕ) (d : List ℕ) (b : ℕ) (e : begun (x ∷ d) ≡ true) where
   -- with LF it would be a message only if b is CR
   no-message : (b ≡ 0x0D → ⊥) → formed (x ∷ d ++ b ∷ [] ++ 0x0A ∷ []) ≡ false
   no-message n = is-false (formed (x ∷ d ++ b ∷ [] ++ 0x0A ∷ []))
-      (λ h. let r = message-ends (x ∷ d ++ b ∷ []) 0x0A h in n (snoc-parts (x ∷ d) (0x3A ∷ hexOf (r .0)) b 0x0D (r .1) .1))
+      (λ h. let r = message-ends (x ∷ d ++ b ∷ []) 0x0A h in n (snoc-parts (x ∷ d) (0x3A ∷ r .digits) b 0x0D (r .text) .1))
 
   hexes : allHex (d ++ b ∷ []) ≡ isHex b
   unfolding allHex
@@ -184,15 +190,14 @@ module _ (x : ℕ) (d : List ℕ) (b : ℕ) (e : begun (x ∷ d) ≡ true) where
 
 -- CR: the digits are pairs, and their bytes right
 pub cr-viable : (x : ℕ) (d : List ℕ) → begun (x ∷ d) ≡ true → viable (x ∷ d ++ 0x0D ∷ []) ≡ both (eqb (2 * length (bytesOf d)) (length d)) (right (bytesOf d))
-unfolding viable begun right textOf
+unfolding viable begun right
 cr-viable x d e = rw (eq-eqb x 0x3A (colon x d 0x0D e), hexes x d 0x0D e ∙ cr-not-hex) (same-test (formed (x ∷ d ++ 0x0D ∷ [] ++ 0x0A ∷ [])) _ there back)
   where
     there : formed (x ∷ d ++ 0x0D ∷ [] ++ 0x0A ∷ []) ≡ true → both (eqb (2 * length (bytesOf d)) (length d)) (right (bytesOf d)) ≡ true
     there h =
         let m = message-out (x ∷ d ++ 0x0D ∷ [] ++ 0x0A ∷ []) h in
-        let is : d ≡ hexOf (m .bytes) = append-cancel-right d (hexOf (m .bytes)) (0x0D ∷ 0x0A ∷ []) (sym (append-snoc d 0x0D (0x0A ∷ [])) ∙ tail-eq-of-cons-eq (m .text)) in
-        let bytes : bytesOf d ≡ m .bytes = ap bytesOf is ∙ bytes-of-hex (m .bytes) (m .below) in
-        rw bytes (both-in (eq-eqb _ (length d) (omega (arith, ap length is, length-hex (m .bytes)))) (both-in (counted-in (m .bytes) (m .low) (m .high)) (m .zeroed)))
+        let is : d ≡ m .digits = append-cancel-right d (m .digits) (0x0D ∷ 0x0A ∷ []) (sym (append-snoc d 0x0D (0x0A ∷ [])) ∙ tail-eq-of-cons-eq (m .text)) in
+        rw is (both-in (eq-eqb _ (length (m .digits)) (m .whole)) (both-in (counted-in (bytesOf (m .digits)) (m .low) (m .high)) (m .zeroed)))
 
     back : both (eqb (2 * length (bytesOf d)) (length d)) (right (bytesOf d)) ≡ true → formed (x ∷ d ++ 0x0D ∷ [] ++ 0x0A ∷ []) ≡ true
     back h =
@@ -209,14 +214,13 @@ pub goes-free : (d : List ℕ) → length d ≤ 508 → goesOn d ≡ true
 unfolding goesOn
 goes-free d h = either-left (free d) (either (lrcBegun d) (full d)) (free-in d h)
 
--- the 509th is the high digit of the LRC of the bytes before it
-pub goes-509 : (d : List ℕ) (b : ℕ) → allHex d ≡ true → length d ≡ 508 → goesOn (d ++ b ∷ []) ≡ eqb b (digitOf (lrcOf (bytesOf d) / 16))
+-- the 509th is the high digit of the LRC of the bytes before it, in either letters
+pub goes-509 : (d : List ℕ) (b : ℕ) → allHex d ≡ true → length d ≡ 508 → goesOn (d ++ b ∷ []) ≡ eqb (capitalOf b) (digitOf (lrcOf (bytesOf d) / 16))
 unfolding goesOn free lrcBegun full
 goes-509 d b hex n =
     let size : length (d ++ b ∷ []) ≡ 509 = omega (arith, length-append d (b ∷ [])) in
-    let bytes : bytesOf (d ++ b ∷ []) ≡ bytesOf d =
-    bytes-append d (b ∷ []) (hex-whole d 254 hex n) ∙ ap (λ (q : List ℕ). bytesOf d ++ q) (one-none b) ∙ append-nil (bytesOf d) in
-    rw (size, getD-at d b [] 0 508 n, bytes) (either-none (eqb b (digitOf (lrcOf (bytesOf d) / 16))))
+    let bytes : bytesOf (d ++ b ∷ []) ≡ bytesOf d = whole-bytes d (b ∷ []) (hex-whole d 254 hex n) (one-none b) in
+    rw (size, getD-at d b [] 0 508 n, bytes) (either-none (eqb (capitalOf b) (digitOf (lrcOf (bytesOf d) / 16))))
 
 -- with the 510th all bytes add to 0
 pub goes-510 : (d : List ℕ) → length d ≡ 510 → goesOn d ≡ addsToZero (bytesOf d)
@@ -247,7 +251,7 @@ module _ (p : List ℕ) (b : ℕ) (v : viable p ≡ true) (some : 1 ≤ length p
   pub step-free : isHex b ≡ true → length p ≤ 508 → viable (p ++ b ∷ []) ≡ true
   step-free h n = step-digit h ∙ goes-free (drop 1 p ++ b ∷ []) (omega (arith, length-append (drop 1 p) (b ∷ []), length-drop 1 p))
 
-  pub step-509 : isHex b ≡ true → length p ≡ 509 → viable (p ++ b ∷ []) ≡ eqb b (digitOf (lrcOf (bytesOf (drop 1 p)) / 16))
+  pub step-509 : isHex b ≡ true → length p ≡ 509 → viable (p ++ b ∷ []) ≡ eqb (capitalOf b) (digitOf (lrcOf (bytesOf (drop 1 p)) / 16))
   step-509 h n =
       let r = begins in
       step-digit h ∙ goes-509 (drop 1 p) b (rw (r .2) (begun-hex (r .0) (r .1) (r .3))) (omega (arith, length-drop 1 p))

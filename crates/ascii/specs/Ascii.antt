@@ -7,10 +7,10 @@ use lib.ListN.{length, take, drop, getD}
 use Rattle.base.specs.Choice.{both, either}
 use Rattle.base.specs.Bytes.{same}
 use Rattle.stream.specs.Format.{Format}
-use Rattle.hex.specs.Hex.{allHex, digitOf, hexOf, bytesOf}
+use Rattle.hex.specs.Hex.{allHex, digitOf, capitalOf, capitals, hexOf, bytesOf}
 use Rattle.checks.specs.Lrc.{addsToZero, lrcOf}
 
--- "`:`, k byte pairs in capital hex, CR LF": the message of k bytes
+-- "`:`, k byte pairs in capital hex, CR LF": the message of k bytes, as it is written
 unfoldable pub textOf : List ℕ → List ℕ
 textOf bytes = 0x3A ∷ hexOf bytes ++ 0x0D ∷ 0x0A ∷ []
 
@@ -25,17 +25,17 @@ counted bytes = both (leb 3 (length bytes)) (leb (length bytes) 255)
 unfoldable pub right : List ℕ → Bool
 right bytes = both (counted bytes) (addsToZero bytes)
 
--- a message is the text of its bytes, and these are right
+-- "Take a-f as well .. in Modbus ASCII pairs": a message is, in capitals, the text of its bytes, and these are right
 unfoldable pub formed : List ℕ → Bool
-formed m = both (same m (textOf (bytesIn m))) (right (bytesIn m))
+formed m = both (same (capitals m) (textOf (bytesIn m))) (right (bytesIn m))
 
 -- the hex digits d may be followed by more, or by CR: up to 508 freely, since the LRC is still to come
 unfoldable pub free : List ℕ → Bool
 free d = leb (length d) 508
 
--- the 509th is the LRC's high digit
+-- the 509th is the LRC's high digit, in either letters
 unfoldable pub lrcBegun : List ℕ → Bool
-lrcBegun d = both (eqb (length d) 509) (eqb (getD d 508 0) (digitOf (lrcOf (bytesOf d) / 16)))
+lrcBegun d = both (eqb (length d) 509) (eqb (capitalOf (getD d 508 0)) (digitOf (lrcOf (bytesOf d) / 16)))
 
 -- with the 510th all bytes add to 0
 unfoldable pub full : List ℕ → Bool

@@ -2,80 +2,30 @@
 use mathlib.Core.Path.{_≡_, refl, sym, ap, _∙_}
 use mathlib.Core.Logic.{⊎-elim}
 use mathlib.Core.Bool.{Bool, true, false}
-use mathlib.Core.List.{List, [], _∷_, _++_, append-nil}
-use Prim.Native.Nat.{ℕ, suc, _+_, _-_, _*_, _/_, _%_, _≤_, min}
+use mathlib.Core.List.{List, [], _∷_, _++_}
+use Prim.Native.Nat.{ℕ, _+_, _-_, _*_, _/_, _%_, _≤_, min}
 use native.Mathlib.Omega.{arith}
 use borrow.Author.Tests.{eq-eqb, eqb-true, eqb-false, lt-ltb, ltb-true, ltb-false}
 use lib.Dec.{eqb, ltb}
-use lib.ListN.{length, take, drop, getD, length-take, length-drop}
-use lib.Seq.{take-suc, take-all, getD-take, append-snoc, length-take-le}
+use lib.ListN.{length, drop, getD, length-take, length-drop}
+use lib.Seq.{getD-take}
 use Rattle.base.specs.Choice.{pick, both, either}
 use Rattle.base.proofs.Tests.{both-out, either-out, same-test}
-use Rattle.hex.specs.declared.Pair.{Pair}
-use Rattle.hex.specs.declared.Pair.the-variants.{Byte}
-use Rattle.hex.specs.Hex.{isHex, allHex, digitOf, pairValue, spelt, bytesOf}
-use Rattle.hex.proofs.RoundTrip.{Whole, all-append, hex-whole, bytes-append, length-bytes, hex-pair, pair-below, pair-digits, digits-pair}
-use Rattle.checks.specs.Lrc.{addsToZero, lrcOf}
-use Rattle.checks.proofs.Laws.{lrc-below, adds-lrc, adds-only}
+use Rattle.hex.specs.Hex.{isHex, allHex, digitOf, capitalOf, bytesOf}
+use Rattle.hex.proofs.RoundTrip.{length-bytes}
+use Rattle.checks.specs.Lrc.{lrcOf}
 use Rattle.pending.specs.declared.Pending.{Pending}
 use Rattle.pending.specs.Held.{held, Sized}
 use Rattle.ascii.specs.Ascii.{bytesIn, right, lrcBegun, full, free, begun, viable}
 use Rattle.ascii.specs.Ascii as Ascii
-use Rattle.ascii.proofs.Becoming.{free-out, begun-out, full-out, one-none}
+use Rattle.ascii.proofs.Limit.{last-pair}
+use Rattle.ascii.proofs.Becoming.{free-out, begun-out, full-out}
 use Rattle.ascii.proofs.Step.{endsInCr, still-begun, step-free, step-509, step-510, step-over, step-cr, step-other}
 use Rattle.ascii_scan.specs.Scan.{ended, digitFits, crFits, goesOn}
 
--- ---- the 510th digit: all bytes add to 0 exactly where it is the low digit of the LRC, since the 509th is the high one
-module _ (d : List ℕ) (b : ℕ) (hex : allHex d ≡ true) (n : length d ≡ 509) (high : getD d 508 0 ≡ digitOf (lrcOf (bytesOf d) / 16)) (digit : isHex b ≡ true) where
-  x : ℕ
-  x = getD d 508 0
-
-  split : d ≡ take 508 d ++ x ∷ []
-  unfolding x
-  split = sym (take-all (suc 508) d (omega arith)) ∙ take-suc d 508 0 (omega arith)
-
-  parts : (allHex (take 508 d) ≡ true) × (allHex (x ∷ []) ≡ true)
-  parts = both-out (allHex (take 508 d)) (allHex (x ∷ [])) (sym (all-append (take 508 d) (x ∷ [])) ∙ ap allHex (sym split) ∙ hex)
-
-  whole : Whole (take 508 d)
-  whole = hex-whole (take 508 d) 254 (parts .0) (length-take-le 508 d (omega arith))
-
-  body : bytesOf (take 508 d) ≡ bytesOf d
-  body = sym (ap bytesOf split ∙ bytes-append (take 508 d) (x ∷ []) whole ∙ ap (λ (q : List ℕ). bytesOf (take 508 d) ++ q) (one-none x) ∙ append-nil (bytesOf (take 508 d)))
-
-  all : bytesOf (d ++ b ∷ []) ≡ bytesOf d ++ bytesOf (x ∷ b ∷ [])
-  all =
-      ap (λ (q : List ℕ). bytesOf (q ++ b ∷ [])) split
-      ∙ ap bytesOf (append-snoc (take 508 d) x (b ∷ []))
-      ∙ bytes-append (take 508 d) (x ∷ b ∷ []) whole
-      ∙ ap (λ (q : List ℕ). q ++ bytesOf (x ∷ b ∷ [])) body
-
-  -- the last pair spells y
-  last : (y : ℕ) → pairValue x b ≡ Byte y → bytesOf (d ++ b ∷ []) ≡ bytesOf d ++ y ∷ []
-  unfolding bytesOf
-  last y e = all ∙ ap (λ (p : Pair). bytesOf d ++ spelt p []) e
-
-  pub last-digit : addsToZero (bytesOf (d ++ b ∷ [])) ≡ eqb b (digitOf (lrcOf (bytesOf d) % 16))
-  unfolding allHex x
-  last-digit = same-test _ _ there back
-    where
-      y : (v : ℕ) × (pairValue x b ≡ Byte v)
-      y = hex-pair x b (both-out (isHex x) true (parts .1) .0) digit
-
-      there : addsToZero (bytesOf (d ++ b ∷ [])) ≡ true → eqb b (digitOf (lrcOf (bytesOf d) % 16)) ≡ true
-      there e =
-          let is : y .0 ≡ lrcOf (bytesOf d) = adds-only (bytesOf d) (y .0) (pair-below x b (y .0) (y .1)) (sym (ap addsToZero (last (y .0) (y .1))) ∙ e) in
-          eq-eqb b _ (sym (digits-pair x b (y .0) (y .1) .1) ∙ ap (λ (v : ℕ). digitOf (v % 16)) is)
-
-      back : eqb b (digitOf (lrcOf (bytesOf d) % 16)) ≡ true → addsToZero (bytesOf (d ++ b ∷ [])) ≡ true
-      back e =
-          let low : b ≡ digitOf (lrcOf (bytesOf d) % 16) = eqb-true b _ e in
-          let is : pairValue x b ≡ Byte (lrcOf (bytesOf d)) = (λ i. pairValue (high i) (low i)) ∙ pair-digits (lrcOf (bytesOf d)) (lrc-below (bytesOf d)) in
-          ap addsToZero (last (lrcOf (bytesOf d)) is) ∙ adds-lrc (bytesOf d)
-
 -- `:` and 509 digits are a beginning only where the last is the high digit of the LRC
 begun-509 : (p : List ℕ) → begun p ≡ true → length p ≡ 510
-    → (allHex (drop 1 p) ≡ true) × (getD (drop 1 p) 508 0 ≡ digitOf (lrcOf (bytesOf (drop 1 p)) / 16))
+    → (allHex (drop 1 p) ≡ true) × (capitalOf (getD (drop 1 p) 508 0) ≡ digitOf (lrcOf (bytesOf (drop 1 p)) / 16))
 unfolding begun Ascii.goesOn
 begun-509 [] e n = absurd (omega arith)
 begun-509 (c ∷ d) e n =
@@ -116,14 +66,19 @@ module _ (p : Pending) (b : ℕ) (size : Sized p) (v : viable (held p) ≡ true)
     where
       go : (s : Bool) → ltb (p .len) 509 ≡ s → (t : Bool) → eqb (p .len) 509 ≡ t → (u : Bool) → eqb (p .len) 510 ≡ u
           → pick s (ltb 0 (p .len))
-          (pick t (eqb b (digitOf (lrcOf (bytesOf (drop 1 (held p))) / 16))) (both u (eqb b (digitOf (lrcOf (bytesOf (drop 1 (held p))) % 16)))))
+          (pick t (eqb (capitalOf b) (digitOf (lrcOf (bytesOf (drop 1 (held p))) / 16))) (both u (eqb (capitalOf b) (digitOf (lrcOf (bytesOf (drop 1 (held p))) % 16)))))
           ≡ viable (held p ++ b ∷ [])
       go true s t i u j = lt-ltb 0 (p .len) (omega arith) ∙ sym (step-free (held p) b v any opened h (omega (arith, n, ltb-true (p .len) 509 s)))
       go false s true i u j = sym (step-509 (held p) b v any opened h (omega (arith, n, eqb-true (p .len) 509 i)))
       go false s false i true j =
           let l : length (held p) ≡ 510 = omega (arith, n, eqb-true (p .len) 510 j) in
           let k = begun-509 (held p) (still-begun (held p) v opened) l in
-          sym (step-510 (held p) b v any opened h l ∙ last-digit (drop 1 (held p)) b (k .0) (omega (arith, length-drop 1 (held p))) (k .1) h)
+          let d : List ℕ = drop 1 (held p) in
+          let low : Bool = eqb (capitalOf b) (digitOf (lrcOf (bytesOf d) % 16)) in
+          sym
+          (step-510 (held p) b v any opened h l
+          ∙ last-pair d b (k .0) (omega (arith, length-drop 1 (held p))) h
+          ∙ ap (λ (t : Bool). both t low) (eq-eqb (capitalOf (getD d 508 0)) (digitOf (lrcOf (bytesOf d) / 16)) (k .1)))
       go false s false i false j =
           let x : p .len ≡ 509 → ⊥ = eqb-false (p .len) 509 i in
           let y : p .len ≡ 510 → ⊥ = eqb-false (p .len) 510 j in

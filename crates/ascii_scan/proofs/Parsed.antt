@@ -1,48 +1,47 @@
 -- The message held, and what the code decodes of it: its bytes, its address and its data unit. Assumes nothing.
 use mathlib.Core.Path.{_≡_, sym, ap, _∙_}
 use mathlib.Core.Bool.{true}
-use mathlib.Core.List.{List, [], _∷_, _++_, append-cancel-right}
-use Prim.Native.Nat.{ℕ, _-_, _≤_}
+use mathlib.Core.List.{List, [], _∷_, _++_}
+use Prim.Native.Nat.{ℕ, _≤_}
 use native.Mathlib.Omega.{arith}
 use lib.ListN.{length, getD, drop, List·getD-append}
 use lib.Seq.{append-snoc}
 use Rattle.base.specs.Bytes.{Bytes}
 use Rattle.base.specs.Buffers.{front}
-use Rattle.hex.specs.Hex.{hexOf, bytesOf}
+use Rattle.hex.specs.Hex.{bytesOf}
 use Rattle.hex.proofs.RoundTrip.{bytes-below}
 use Rattle.pending.specs.declared.Pending.{Pending}
 use Rattle.pending.specs.Held.{held, Sized}
 use Rattle.pending.specs.Scanning.{scanFrom}
 use Rattle.pending.proofs.Scans.{scan-leaves}
-use Rattle.ascii.specs.Ascii.{textOf, bytesIn, formed, viable, ascii, addressAmong, unitAmong}
-use Rattle.ascii.proofs.Message.{cr-none, hex-bytes, text-bytes, Message, message-out}
+use Rattle.ascii.specs.Ascii.{bytesIn, formed, viable, ascii, addressAmong, unitAmong}
+use Rattle.ascii.proofs.Message.{cr-none, whole-bytes, message-right}
 use Rattle.ascii.proofs.Lawful.{ascii-lawful}
+use Rattle.ascii.proofs.Step.{message-ends}
 use Rattle.ascii_scan.specs.Scan.{messageIn, feeding}
 use Rattle.ascii_scan.proofs.Follows.{ascii-follows}
 
--- the bytes that the code decodes of the text of some bytes are these
-pub text-held : (p : Pending) (b : List ℕ) → Bytes b → messageIn p ≡ textOf b → bytesIn (held p) ≡ b
-unfolding messageIn textOf bytesIn
-text-held p b below e =
-    let text : held p ≡ 0x3A ∷ hexOf b ++ 0x0D ∷ [] =
-    append-cancel-right (held p) (0x3A ∷ hexOf b ++ 0x0D ∷ []) (0x0A ∷ []) (e ∙ ap (λ (q : List ℕ). 0x3A ∷ q) (sym (append-snoc (hexOf b) 0x0D (0x0A ∷ [])))) in
-    ap (λ (q : List ℕ). bytesOf (drop 1 q)) text ∙ hex-bytes b (0x0D ∷ []) below (cr-none [])
+-- a message's bytes end at its CR, so the LF adds nothing
+without-lf : (p : List ℕ) (b : ℕ) → formed (p ++ b ∷ []) ≡ true → bytesIn p ≡ bytesIn (p ++ b ∷ [])
+unfolding bytesIn
+without-lf p b e =
+    let m = message-ends p b e in
+    let d : List ℕ = m .digits in
+    let ends : (z : List ℕ) → bytesOf (d ++ 0x0D ∷ z) ≡ bytesOf d = λ z. whole-bytes d (0x0D ∷ z) (m .whole) (cr-none z) in
+    rw (m .text) (ends [] ∙ sym (ends (b ∷ [])) ∙ ap bytesOf (sym (append-snoc d 0x0D (b ∷ []))))
 
 -- ---- a message is held
 module _ (p : Pending) (e : formed (messageIn p) ≡ true) where
-  message : Message (messageIn p)
-  message = message-out (messageIn p) e
-
-  spelt : bytesIn (held p) ≡ message .bytes
-  spelt = text-held p (message .bytes) (message .below) (message .text)
-
   -- the LF, which is not held, adds nothing
   pub message-held : bytesIn (held p) ≡ bytesIn (messageIn p)
-  message-held = spelt ∙ sym (ap bytesIn (message .text) ∙ text-bytes (message .bytes) (message .below))
+  unfolding messageIn
+  message-held = without-lf (held p) 0x0A e
 
   -- "k from 3 to 255"
   pub message-count : (3 ≤ length (bytesIn (held p))) × (length (bytesIn (held p)) ≤ 255)
-  message-count = (omega (arith, ap length spelt, message .low), omega (arith, ap length spelt, message .high))
+  message-count =
+      let r = message-right (messageIn p) e in
+      (omega (arith, ap length message-held, r .0), omega (arith, ap length message-held, r .1))
 
   pub unit-held : unitAmong (bytesIn (held p)) ≡ unitAmong (bytesIn (messageIn p))
   unit-held = ap unitAmong message-held

@@ -5,12 +5,13 @@ use mathlib.Core.List.{List}
 use Prim.Native.Nat.{ℕ, _+_, _-_, _%_, _≤_, _<_, min}
 use native.Mathlib.Nat.{add-zero}
 use native.Mathlib.Omega.{arith}
-use borrow.Author.Tests.{le-leb, leb-true, lt-ltb, ltb-true, ltb-false, ne-eqb, not-false}
+use borrow.Author.Tests.{le-leb, leb-true, lt-ltb, le-ltb, ltb-true, ltb-false, ne-eqb, not-false}
 use lib.Dec.{leb, eqb, ltb}
 use lib.ListN.{length, take, drop, getD, set, List·getD-eq-default, take-append-drop, length-take}
 use lib.Seq.{getD-set-same, set-out, drop-append-le}
-use Rattle.base.proofs.Tests.{both-out, either-left, either-right, is-false}
-use Rattle.hex.specs.Hex.{isNumeral, isCapital, isHex}
+use Rattle.base.specs.Choice.{both, either}
+use Rattle.base.proofs.Tests.{both-out, both-in, either-left, either-right, same-test}
+use Rattle.hex.specs.Hex.{isNumeral, isCapital, isSmall, isLetter, isHex}
 use Rattle.hex.proofs.RoundTrip.{hex-other, cr-not-hex}
 use Rattle.pending.specs.declared.Pending.{Pending}
 use Rattle.pending.specs.Held.{pushed}
@@ -19,34 +20,40 @@ use Rattle.pending.proofs.Scans.{scan-append}
 use Rattle.ascii_scan.specs.Scan.{ended, digitFits, goesOn, ends, fed, feeding}
 use Rattle.ascii_scan.proofs.Turns.{open-ends, keeps-next, next-same}
 
--- ---- the code's tests of a character: w is the character less `0`, or less `A`, modulo 256
+-- ---- the code's tests of a character: w is the character less the first of those from `first` to `last`, modulo 256
+module _ (b w first last : ℕ) (byte : b < 256) (wide : w < 256) (wraps : (w + first) % 256 ≡ b) (order : first ≤ last) (small : last < 256) where
+  among : ltb w (last + 1 - first) ≡ both (leb first b) (leb b last)
+  among = same-test (ltb w (last + 1 - first)) (both (leb first b) (leb b last))
+      (λ q. let h = ltb-true w (last + 1 - first) q in both-in (le-leb first b (omega arith)) (le-leb b last (omega arith)))
+      (λ q. let k = both-out (leb first b) (leb b last) q in lt-ltb w (last + 1 - first) (omega (arith, leb-true first b (k .0), leb-true b last (k .1))))
+
 module _ (b w : ℕ) (byte : b < 256) (wide : w < 256) where
   pub numeral-told : (w + 0x30) % 256 ≡ b → ltb w 10 ≡ isNumeral b
-  numeral-told e = go (ltb w 10) refl
-    where
-      go : (t : Bool) → ltb w 10 ≡ t → t ≡ isNumeral b
-      go true q = let h : w < 10 = ltb-true w 10 q in simp (le-leb 0x30 b (omega arith), le-leb b 0x39 (omega arith))
-      go false q =
-          let h : 10 ≤ w = ltb-false w 10 q in
-          sym (is-false (isNumeral b) (λ r. let k = both-out (leb 0x30 b) (leb b 0x39) r in omega (arith, leb-true 0x30 b (k .0), leb-true b 0x39 (k .1))))
+  numeral-told e = among b w 0x30 0x39 byte wide e (omega arith) (omega arith)
 
-  pub capital-told : (w + 0x41) % 256 ≡ b → ltb w 6 ≡ isCapital b
-  capital-told e = go (ltb w 6) refl
-    where
-      go : (t : Bool) → ltb w 6 ≡ t → t ≡ isCapital b
-      go true q = let h : w < 6 = ltb-true w 6 q in simp (le-leb 0x41 b (omega arith), le-leb b 0x46 (omega arith))
-      go false q =
-          let h : 6 ≤ w = ltb-false w 6 q in
-          sym (is-false (isCapital b) (λ r. let k = both-out (leb 0x41 b) (leb b 0x46) r in omega (arith, leb-true 0x41 b (k .0), leb-true b 0x46 (k .1))))
+  capital-told : (w + 0x41) % 256 ≡ b → ltb w 6 ≡ isCapital b
+  capital-told e = among b w 0x41 0x46 byte wide e (omega arith) (omega arith)
+
+  small-told : (w + 0x61) % 256 ≡ b → ltb w 6 ≡ isSmall b
+  small-told e = among b w 0x61 0x66 byte wide e (omega arith) (omega arith)
+
+-- a letter: w is the character less `A`, then v less `a`
+module _ (b w : ℕ) (byte : b < 256) (wide : w < 256) (wraps : (w + 0x41) % 256 ≡ b) where
+  pub letter-capital : w < 6 → true ≡ isLetter b
+  letter-capital h = sym (either-left (isCapital b) (isSmall b) (sym (capital-told b w byte wide wraps) ∙ lt-ltb w 6 h))
+
+  pub letter-small : (v : ℕ) → 6 ≤ w → v < 256 → (v + 0x61) % 256 ≡ b → ltb v 6 ≡ isLetter b
+  letter-small v h wide-too wraps-too =
+      small-told b v byte wide-too wraps-too ∙ ap (λ (t : Bool). either t (isSmall b)) (sym (le-ltb w 6 h) ∙ capital-told b w byte wide wraps)
 
 module _ (b : ℕ) (t : Bool) (f : not t ≡ false) where
   numeral-hex : t ≡ isNumeral b → isHex b ≡ true
   unfolding isHex
-  numeral-hex e = either-left (isNumeral b) (isCapital b) (sym e ∙ not-false t f)
+  numeral-hex e = either-left (isNumeral b) (isLetter b) (sym e ∙ not-false t f)
 
-  capital-hex : t ≡ isCapital b → isHex b ≡ true
+  letter-hex : t ≡ isLetter b → isHex b ≡ true
   unfolding isHex
-  capital-hex e = either-right (isNumeral b) (isCapital b) (sym e ∙ not-false t f)
+  letter-hex e = either-right (isNumeral b) (isLetter b) (sym e ∙ not-false t f)
 
 -- ---- a digit goes on freely
 module _ (l : List ℕ) (k b : ℕ) (few : k < 509) (hex : isHex b ≡ true) where
@@ -116,16 +123,16 @@ module _ (s l : List ℕ) (n i : ℕ) (some : 1 ≤ n) (room : n + length s ≤ 
         → Running s p₀ start (record { bytes = set l (n + i) (getD s i 0); len = n + (i + 1) }) (i + 1)
     numeral-again p₀ start e = digit-again (numeral-hex (getD s i 0) t f e) p₀ start
 
-    pub capital-open : t ≡ isCapital (getD s i 0) → ended (record { bytes = set l (n + i) (getD s i 0); len = n + (i + 1) }) ≡ false
-    capital-open e = digit-open (capital-hex (getD s i 0) t f e)
+    pub letter-open : t ≡ isLetter (getD s i 0) → ended (record { bytes = set l (n + i) (getD s i 0); len = n + (i + 1) }) ≡ false
+    letter-open e = digit-open (letter-hex (getD s i 0) t f e)
 
-    -- a capital, and the numerals behind it up to place j
-    pub capital-again : (p₀ q : Pending) (start j : ℕ) → t ≡ isCapital (getD s i 0) → Running s p₀ start (record { bytes = l; len = n + i }) i → i + 1 ≤ j → j ≤ length s
+    -- a letter, and the numerals behind it up to place j
+    pub letter-again : (p₀ q : Pending) (start j : ℕ) → t ≡ isLetter (getD s i 0) → Running s p₀ start (record { bytes = l; len = n + i }) i → i + 1 ≤ j → j ≤ length s
         → ended q ≡ false
         → scanFrom feeding q j (drop j s) ≡ scanFrom feeding (record { bytes = set l (n + i) (getD s i 0); len = n + (i + 1) }) (i + 1) (drop (i + 1) s)
         → Running s p₀ start q j
-    capital-again p₀ q start j e r on inside still same =
-        let m = digit-again (capital-hex (getD s i 0) t f e) p₀ start r in
+    letter-again p₀ q start j e r on inside still same =
+        let m = digit-again (letter-hex (getD s i 0) t f e) p₀ start r in
         record { onward = omega (arith, r .onward); within = inside; opened = still; same = same ∙ m .same }
 
 -- ---- `push_digits`: the bytes that have room are the first e of the bytes s

@@ -12,7 +12,7 @@ use lib.Seq.{take-all, drop-drop}
 use Rattle.base.specs.Choice.{pick, both}
 use Rattle.hex.specs.declared.Digit.{Digit}
 use Rattle.hex.specs.declared.Digit.the-variants.{Value, NotHex}
-use Rattle.hex.specs.Hex.{isHex, digitValue, digitOf}
+use Rattle.hex.specs.Hex.{isHex, digitValue, digitOf, capitalOf}
 use Rattle.hex.proofs.RoundTrip.{isValue, hex-is-value, value-hex, cr-not-hex}
 use Rattle.checks.specs.Lrc.{lrcOf}
 use Rattle.pending.specs.declared.Pending.{Pending}
@@ -41,15 +41,15 @@ module _ (l : List ℕ) (n : ℕ) where
   unfolding ended
   ended-last k h e = simp (ne-eqb n 0 h, e)
 
--- ---- the digits of the LRC
-module _ (n lrc l b d : ℕ) (e : l ≡ lrc) where
-  pub digit-high : n ≡ 509 → d ≡ digitOf (l / 16) → eqb b d ≡ digitFits n lrc b
+-- ---- the digits of the LRC: c is b in capitals
+module _ (n lrc l b c d : ℕ) (e : l ≡ lrc) (k : c ≡ capitalOf b) where
+  pub digit-high : n ≡ 509 → d ≡ digitOf (l / 16) → eqb c d ≡ digitFits n lrc b
   unfolding digitFits
-  digit-high h q = simp (h, q, e)
+  digit-high h q = simp (h, q, e, k)
 
-  pub digit-low : n ≡ 510 → d ≡ digitOf (l % 16) → eqb b d ≡ digitFits n lrc b
+  pub digit-low : n ≡ 510 → d ≡ digitOf (l % 16) → eqb c d ≡ digitFits n lrc b
   unfolding digitFits
-  digit-low h q = simp (h, q, e)
+  digit-low h q = simp (h, q, e, k)
 
 -- ---- whether b goes on, by the code's tests: CR is no digit
 module _ (l : List ℕ) (n b : ℕ) (r : Bool) where

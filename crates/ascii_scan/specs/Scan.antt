@@ -7,7 +7,7 @@ use Prim.Native.Nat.{ℕ, _+_, _-_, _*_, _/_, _%_, min}
 use lib.Dec.{eqb, ltb}
 use lib.ListN.{length, getD}
 use Rattle.base.specs.Choice.{pick, both}
-use Rattle.hex.specs.Hex.{isHex, digitOf}
+use Rattle.hex.specs.Hex.{isHex, digitOf, capitalOf}
 use Rattle.checks.specs.Lrc.{lrcOf}
 use Rattle.pending.specs.declared.Pending.{Pending}
 use Rattle.pending.specs.Held.{held, emptied, pushed, beganWith}
@@ -19,9 +19,9 @@ unfoldable pub ended : Pending → Bool
 ended p = pick (eqb (p .len) 0) false (eqb (getD (p .bytes) (min (p .len) 512 - 1) 0) 0x0D)
 
 -- "k from 3 to 255": where n bytes are pending, `:` and n - 1 digits, a digit goes on freely up to the 508th. The 509th and the 510th can only be the two
--- digits of the LRC
+-- digits of the LRC, in either letters
 unfoldable pub digitFits : ℕ → ℕ → ℕ → Bool
-digitFits n lrc b = pick (ltb n 509) (ltb 0 n) (pick (eqb n 509) (eqb b (digitOf (lrc / 16))) (both (eqb n 510) (eqb b (digitOf (lrc % 16)))))
+digitFits n lrc b = pick (ltb n 509) (ltb 0 n) (pick (eqb n 509) (eqb (capitalOf b) (digitOf (lrc / 16))) (both (eqb n 510) (eqb (capitalOf b) (digitOf (lrc % 16)))))
 
 -- "k byte pairs ..": CR goes on where the digits are pairs to their end, and their bytes are right
 unfoldable pub crFits : ℕ → List ℕ → Bool

@@ -3,7 +3,7 @@ ghost use mathlib.Core.Path.{_≡_};
 ghost use mathlib.Core.Bool.{false};
 ghost use Prim.Native.Nat.{_+_, _-_, _≤_, min};
 ghost use lib.ListN.{length, drop};
-ghost use Rattle.hex.specs.Hex.{isNumeral, isCapital};
+ghost use Rattle.hex.specs.Hex.{isNumeral, isLetter};
 ghost use Rattle.pending.specs.Scanning.{scanFrom};
 ghost use Rattle.ascii_scan.specs.Scan.{ended, feeding};
 
@@ -25,7 +25,7 @@ pub(crate) fn push_digits(held: &mut [u8; 512], n: usize, bytes: &[u8]) -> usize
     push_run(held, n, &bytes[0..end])
 }
 
-// The same, where all of `bytes` has room: numerals, a capital, numerals again.
+// The same, where all of `bytes` has room: numerals, a letter, numerals again.
 fn push_run(held: &mut [u8; 512], n: usize, bytes: &[u8]) -> usize
     requires { ⌜ 1 ≤ n ⌝ }
     requires { ⌜ n + length (now bytes) ≤ 509 ⌝ }
@@ -37,7 +37,7 @@ fn push_run(held: &mut [u8; 512], n: usize, bytes: &[u8]) -> usize
 {
     let mut i = push_numerals(held, n, bytes, 0);
     while i < bytes.len() {
-        if !is_capital(bytes[i]) {
+        if !is_letter(bytes[i]) {
             return i;
         }
         held[n + i] = bytes[i];
@@ -76,11 +76,14 @@ fn is_numeral(b: u8) -> bool
     std::num::wrapping_sub_u8(b, b'0') < 10
 }
 
-// A-F
-fn is_capital(b: u8) -> bool
-    ensures { λ r. ⌜ r ≡ isCapital b ⌝ }
+// A-F or a-f
+fn is_letter(b: u8) -> bool
+    ensures { λ r. ⌜ r ≡ isLetter b ⌝ }
 {
-    std::num::wrapping_sub_u8(b, b'A') < 6
+    if std::num::wrapping_sub_u8(b, b'A') < 6 {
+        return true;
+    }
+    std::num::wrapping_sub_u8(b, b'a') < 6
 }
 
 fn least(a: usize, b: usize) -> usize

@@ -15,7 +15,8 @@ pub(crate) struct Pairs {
     sum: u8,
 }
 
-// Whether a hex digit goes on behind the `n` bytes pending: freely up to the 508th; the 509th and the 510th are the LRC's digits.
+// Whether a hex digit goes on behind the `n` bytes pending: freely up to the 508th; the 509th and the 510th are the LRC's digits, in
+// either letters.
 pub(crate) fn digit_fits(held: &[u8; 512], n: usize, b: u8) -> bool
     ensures { λ r. ⌜ r ≡ digitFits n (lrcOf (bytesIn (take n (now (held .entry))))) b ⌝ }
 {
@@ -23,10 +24,10 @@ pub(crate) fn digit_fits(held: &[u8; 512], n: usize, b: u8) -> bool
         return 0 < n;
     }
     if n == 509 {
-        return b == hex::digit_of(lrc_in(held, n) / 16);
+        return hex::capital_of(b) == hex::digit_of(lrc_in(held, n) / 16);
     }
     if n == 510 {
-        return b == hex::digit_of(lrc_in(held, n) % 16);
+        return hex::capital_of(b) == hex::digit_of(lrc_in(held, n) % 16);
     }
     false
 }

@@ -153,7 +153,7 @@ fn goes_on(held: &[u8; 512], n: usize, b: u8) -> bool
     false
 }
 
-// 0-9 or A-F
+// 0-9, A-F or a-f
 fn is_hex(b: u8) -> bool
     ensures { λ r. ⌜ r ≡ isHex b ⌝ }
 {

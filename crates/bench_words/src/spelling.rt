@@ -2,7 +2,7 @@
 ghost use mathlib.Core.Path.{_≡_};
 ghost use lib.ListN.{length, take};
 ghost use lib.Seq.{sets};
-ghost use Rattle.bench_words.specs.Spelling.{spellingOf, bytesSpelt};
+ghost use Rattle.bench_words.specs.Spelling.{inCapitals, spellingOf, bytesSpelt};
 
 // How many bytes HEX spells.
 pub enum Spelling {
@@ -18,6 +18,9 @@ pub fn spelt(word: &[u8], bytes: &mut [u8]) -> Spelling
     if check::same(word, b"-") {
         return Spelling::Bytes(0);
     }
+    if !in_capitals(word) {
+        return Spelling::NotHex;
+    }
     let n = hex::decode(word, bytes);
     if n == 0 {
         return Spelling::NotHex;
@@ -29,6 +32,20 @@ pub fn spelt(word: &[u8], bytes: &mut [u8]) -> Spelling
         return Spelling::NotHex;
     }
     Spelling::Bytes(n)
+}
+
+// Whether no character is one of a-f.
+fn in_capitals(word: &[u8]) -> bool
+    ensures { λ r. ⌜ r ≡ inCapitals (now (word .entry)) ⌝ }
+{
+    let mut i: usize = 0;
+    while i < word.len() {
+        if hex::capital_of(word[i]) != word[i] {
+            return false;
+        }
+        i += 1;
+    }
+    true
 }
 
 // The first `n` bytes, or all where there are fewer.

@@ -1,8 +1,8 @@
-// Reads frames on standard input, a line each in capital hex, `-` for no bytes, and prints the CRC of each as four hex digits, the high
+// Reads frames on standard input, a line each in hex, `-` for no bytes, and prints the CRC of each as four hex digits, the high
 // one first. A line that is no frame, or has more than 1024 characters, is answered `?`.
 //
 // The file `stdin` has the example of MB, the frame 02 07 (Serial Line V1.02, Appendix B), and its first byte alone; the digits 1 to 9, whose
-// CRC is the check value of CRC-16/MODBUS; no bytes; and three lines that are no frames.
+// CRC is the check value of CRC-16/MODBUS; a frame in either letters; no bytes; and three lines that are no frames.
 mod line;
 
 use libc::STDIN_FILENO;

@@ -4,6 +4,7 @@ use mathlib.Core.Logic.{_⊎_, inl, inr}
 use mathlib.Core.List.{List}
 use Prim.Native.Nat.{ℕ, _+_, _-_}
 use native.Mathlib.Omega.{arith}
+use Rattle.hex.specs.Hex.{capitals}
 use Rattle.nfo.proofs.Address.{adr-fits}
 use Rattle.rtu.specs.Rtu.{rtuOf}
 use Rattle.ascii.specs.Ascii.{asciiOf}
@@ -20,7 +21,7 @@ use Rattle.master_nfo.specs.Replies as serial
 use Rattle.master_nfo.specs.Replies.{readOf}
 use Rattle.master_nfo.specs.declared.replies.Reply as Serial
 use Rattle.master_nfo.specs.declared.replies.Reply.the-variants as Serials
-use Rattle.master_nfo.proofs.Answered.{reply-read, ack-read, nak-read, told-only, acknowledged-only, refused-only}
+use Rattle.master_nfo.proofs.Answered.{spelt-read, ack-read, nak-read, told-only, acknowledged-only, refused-only}
 use Rattle.demands.specs.Demand1.{ZeroOr14, IsSerial, Hearing}
 
 -- where it is one of the two
@@ -54,8 +55,8 @@ own : (a : ℕ) → a + 32 - 32 ≡ a
 own a = omega arith
 
 serial-every : (r : Serial.Reply) (s : List ℕ) → IsSerial r s → readOf s ≡ r
-serial-every (Serials.Told a e w) s (l, k, m, h) =
-    ap readOf h ∙ reply-read (a + 32) (e .0) w (adr-fits a l) k m ∙ ap (λ (x : ℕ). Serials.Told x e w) (own a)
+serial-every (Serials.Told a e w) s (l, k, m, number, value, p, v, h) =
+    ap readOf h ∙ spelt-read (a + 32) (e .0) w number value p v (adr-fits a l) k m ∙ ap (λ (x : ℕ). Serials.Told x e w) (own a)
 serial-every (Serials.Acknowledged a) s (l, h) = ap readOf h ∙ ack-read (a + 32) (adr-fits a l) ∙ ap Serials.Acknowledged (own a)
 serial-every (Serials.Refused a) s (l, h) = ap readOf h ∙ nak-read (a + 32) (adr-fits a l) ∙ ap Serials.Refused (own a)
 serial-every Serials.NotAReply s h = absurd h
@@ -83,6 +84,6 @@ hearing =
     record {
       serial-only = λ s. zero-or-14 _ (IsSerial (readOf s) s) (serial-either (readOf s)) (serial-only s (readOf s) refl) (serial-zero s (readOf s));
       serial-every = serial-every;
-      rtu = record { only = λ s below. modbus-only rtuOf s (rtuHeard s) (Frames.reply-only s below); every = λ r ws h e w. Frames.reply-back r ws h e };
-      ascii = record { only = λ s below. modbus-only asciiOf s (asciiHeard s) (Texts.reply-only s); every = Texts.reply-back };
+      rtu = record { only = λ s below. modbus-only rtuOf s (rtuHeard s) (Frames.reply-only s below); every = λ r ws h e w s is. ap rtuHeard is ∙ Frames.reply-back r ws h e };
+      ascii = record { only = λ s below. modbus-only asciiOf (capitals s) (asciiHeard s) (Texts.reply-only s); every = Texts.reply-back };
     }

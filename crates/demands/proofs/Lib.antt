@@ -14,6 +14,7 @@ pub mod Told
 pub mod Replied
 pub mod Registers
 pub mod Demand2
+pub mod Letters
 pub mod Unsaid
 pub mod Hearing
 pub mod Demand1

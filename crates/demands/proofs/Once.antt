@@ -10,8 +10,7 @@ use lib.ListN.{length, getD, length-append}
 use lib.Seq.{getD-append-seam, getD-append-add}
 use Rattle.stream.specs.Reading.{Yield, Reads}
 use Rattle.stream.specs.Once.{Once, LastOf}
-use Rattle.hex.specs.Hex.{hexOf}
-use Rattle.ascii.specs.Ascii.{textOf, ascii}
+use Rattle.ascii.specs.Ascii.{ascii}
 use Rattle.ascii.proofs.Message.{message-out}
 use Rattle.ascii.proofs.Lawful.{ascii-lawful, ascii-stream}
 
@@ -21,8 +20,7 @@ first-byte u m v e = let (b, more, h) = ascii-lawful .begins m e in rw h (getD-a
 
 -- and its last is LF
 ends : (m : List ℕ) → ascii .formed m ≡ true → (w : List ℕ) × (m ≡ w ++ 0x0A ∷ [])
-unfolding textOf
-ends m e = let p = message-out m e in ((0x3A ∷ hexOf (p .bytes)) ++ 0x0D ∷ [], p .text ∙ sym (append-assoc (0x3A ∷ hexOf (p .bytes)) (0x0D ∷ []) (0x0A ∷ [])))
+ends m e = let p = message-out m e in ((0x3A ∷ p .digits) ++ 0x0D ∷ [], p .text ∙ sym (append-assoc (0x3A ∷ p .digits) (0x0D ∷ []) (0x0A ∷ [])))
 
 last-byte : (u w v : List ℕ) → getD (u ++ ((w ++ 0x0A ∷ []) ++ v)) (length u + length w) 0 ≡ 0x0A
 last-byte u w v = getD-append-add u ((w ++ 0x0A ∷ []) ++ v) (length w) 0 ∙ rw (append-assoc w (0x0A ∷ []) v) (getD-append-seam w 0x0A v 0)

@@ -13,6 +13,7 @@ use Rattle.base.specs.Choice.{pick}
 use Rattle.base.specs.Bytes.{Bytes, same}
 use Rattle.base.proofs.Lists.{below-drop, below-take}
 use Rattle.base.proofs.Tests.{pick-both}
+use Rattle.hex.specs.Hex.{capitals}
 use Rattle.table.specs.Table.{lineAt}
 use Rattle.table.specs.declared.labels.Row.{Row}
 use Rattle.table.specs.declared.labels.Register.{Register}
@@ -203,7 +204,7 @@ unfolding rtuHeard frameHolds
 rtu-silence = refl
 
 ascii-silence : replyNumber (asciiHeard [] .reply) ≡ 14
-unfolding asciiHeard formed textOf same
+unfolding asciiHeard formed textOf same capitals
 ascii-silence = refl
 
 pub rtu-answers : (c : Card) → Sound c → protocolOf c ≡ 1 → (f : List ℕ) (room : ℕ) → replyLeast ≤ room → (x : Answer)

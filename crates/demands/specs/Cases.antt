@@ -1,5 +1,5 @@
--- Document 01's ★ cases and case 9, the errors that it says to rule out, an exchange of RTU, and a 32-bit row written and read back over ASCII: one table, one
--- statement. "Fresh start, address 1, unless said". Assumes nothing.
+-- Document 01's ★ cases and case 9, the errors that it says to rule out, small letters, an exchange of RTU, and a 32-bit row written and read back over ASCII: one
+-- table, one statement. "Fresh start, address 1, unless said". Assumes nothing.
 use mathlib.Core.Path.{_≡_}
 use mathlib.Core.List.{List, [], _∷_, _++_, map}
 use Prim.Native.Nat.{ℕ, zero, suc}
@@ -111,6 +111,10 @@ rtu bytes right = record { card = started Rtu; bytes = bytes; right = showing ri
 abbrev pub ascii : List ℕ → List Said → Case
 ascii bytes right = record { card = started Ascii; bytes = bytes; right = showing right 0 }
 
+-- a broadcast read, where fault 1 could be acknowledged: outcome 1, no reply, and flag 1 stands
+abbrev pub broadcast-read : Protocol → List ℕ → Case
+broadcast-read protocol bytes = record { card = faulted protocol; bytes = bytes; right = showing (says 1 [] ∷ []) 2 }
+
 unfoldable pub cases : List Case
 cases =
     -- 1: "S2's own SELECT .. outcome 2, NAK 21 15"
@@ -133,14 +137,10 @@ cases =
     -- "`:0103070C0001E8`: `:0183027A`"
     ∷ ascii (line (read-1 ++ (0x30 ∷ 0x37 ∷ 0x30 ∷ 0x43 ∷ 0x30 ∷ 0x30 ∷ 0x30 ∷ 0x31 ∷ 0x45 ∷ 0x38 ∷ [])))
     (says 2 (line (refused-1 ++ (0x30 ∷ 0x32 ∷ 0x37 ∷ 0x41 ∷ []))) ∷ [])
-    -- "`:000302A4000156`: outcome 1, nothing acknowledged": flag 1 stands
-    ∷ record {
-      card = faulted Ascii;
-      bytes = line (0x30 ∷ 0x30 ∷ 0x30 ∷ 0x33 ∷ 0x30 ∷ 0x32 ∷ 0x41 ∷ 0x34 ∷ 0x30 ∷ 0x30 ∷ 0x30 ∷ 0x31 ∷ 0x35 ∷ 0x36 ∷ []);
-      right = showing (says 1 [] ∷ []) 2;
-    }
+    -- "`:000302A4000156`: outcome 1, nothing acknowledged"
+    ∷ broadcast-read Ascii (line (0x30 ∷ 0x30 ∷ 0x30 ∷ 0x33 ∷ 0x30 ∷ 0x32 ∷ 0x41 ∷ 0x34 ∷ 0x30 ∷ 0x30 ∷ 0x30 ∷ 0x31 ∷ 0x35 ∷ 0x36 ∷ []))
     -- "Acknowledging a fault on a broadcast read": an ENQUIRY of 00E8 to 95 is outcome 1, and flag 1 stands; "or on 02A5h": a read of it tells 1, and flag 1 stands
-    ∷ record { card = faulted Nfo; bytes = 0x04 ∷ 0x7F ∷ 0x45 ∷ 0x30 ∷ 0x30 ∷ 0x45 ∷ 0x38 ∷ 0x05 ∷ []; right = showing (says 1 [] ∷ []) 2 }
+    ∷ broadcast-read Nfo (0x04 ∷ 0x7F ∷ 0x45 ∷ 0x30 ∷ 0x30 ∷ 0x45 ∷ 0x38 ∷ 0x05 ∷ [])
     ∷ record {
       card = faulted Ascii;
       bytes = spelt (0x01 ∷ 0x03 ∷ 0x02 ∷ 0xA5 ∷ 0x00 ∷ 0x01 ∷ 0x54 ∷ []);
@@ -148,6 +148,17 @@ cases =
     }
     -- 9: "SELECT Accel 0093h, then case 2": `0 2106`, `0 210245303031443D303039330304`
     ∷ case (accel ++ (0x30 ∷ 0x30 ∷ 0x39 ∷ 0x33 ∷ 0x03 ∷ 0x04 ∷ ask)) (says 0 ack ∷ says 0 accel-147 ∷ [])
+    -- case 2 in small letters, `E001d`: its reply, byte for byte. "The prefix E stays a capital": `e001D` is no row
+    ∷ case (0x04 ∷ 0x21 ∷ 0x45 ∷ 0x30 ∷ 0x30 ∷ 0x31 ∷ 0x64 ∷ 0x05 ∷ []) (says 0 accel-50 ∷ [])
+    ∷ case (0x04 ∷ 0x21 ∷ 0x65 ∷ 0x30 ∷ 0x30 ∷ 0x31 ∷ 0x44 ∷ 0x05 ∷ []) (says 2 nak ∷ [])
+    -- case 4 in small letters, `b1e0` and `b1df`; `g` is no digit: 8
+    ∷ case (r-fix1 ++ (0x62 ∷ 0x31 ∷ 0x65 ∷ 0x30 ∷ 0x03 ∷ 0x77 ∷ [])) (says 0 ack ∷ [])
+    ∷ case (r-fix1 ++ (0x62 ∷ 0x31 ∷ 0x64 ∷ 0x66 ∷ 0x03 ∷ 0x20 ∷ [])) (says 4 nak ∷ [])
+    ∷ case (r-fix1 ++ (0x62 ∷ 0x31 ∷ 0x67 ∷ 0x30 ∷ 0x03 ∷ 0x75 ∷ [])) (says 8 nak ∷ [])
+    -- case 7 in small letters: `:0103070c0001e8` is answered `:0183027A`; `:000302a4000156` acknowledges nothing
+    ∷ ascii (line (read-1 ++ (0x30 ∷ 0x37 ∷ 0x30 ∷ 0x63 ∷ 0x30 ∷ 0x30 ∷ 0x30 ∷ 0x31 ∷ 0x65 ∷ 0x38 ∷ [])))
+    (says 2 (line (refused-1 ++ (0x30 ∷ 0x32 ∷ 0x37 ∷ 0x41 ∷ []))) ∷ [])
+    ∷ broadcast-read Ascii (line (0x30 ∷ 0x30 ∷ 0x30 ∷ 0x33 ∷ 0x30 ∷ 0x32 ∷ 0x61 ∷ 0x34 ∷ 0x30 ∷ 0x30 ∷ 0x30 ∷ 0x31 ∷ 0x35 ∷ 0x36 ∷ []))
     -- RTU: MODE is read, with MB's CRC low byte first
     ∷ rtu (0x01 ∷ 0x03 ∷ 0x02 ∷ 0x94 ∷ 0x00 ∷ 0x01 ∷ 0xC4 ∷ 0x5E ∷ []) (says 0 (0x01 ∷ 0x03 ∷ 0x02 ∷ 0x00 ∷ 0x01 ∷ 0x79 ∷ 0x84 ∷ []) ∷ [])
     -- ASCII: a 16 of 1000000, F4240h, to SpdScl num, "32-bit values low word first", and a read of it

@@ -16,7 +16,8 @@ use Rattle.stream.specs.Reading.{Taken, Yield, Reads}
 use Rattle.drive.specs.declared.events.Measured.{Measured}
 use Rattle.drive.specs.Events.{isFault}
 use Rattle.pending.specs.Held.{held}
-use Rattle.nfo_parts.specs.Replies.{replyOf, ackOf, nakOf}
+use Rattle.hex.specs.Hex.{capitals}
+use Rattle.nfo_parts.specs.Replies.{Spells, replyWith, ackOf, nakOf}
 use Rattle.card.specs.State.{protocolOf, cardSum}
 use Rattle.card.specs.Events.{faultRaised, causeEnded, din1Set, measuredSet, parityTold, ticked}
 use Rattle.card.specs.Outcome.{outcomeNumber}
@@ -140,25 +141,29 @@ pub record Unsaid : Type 0 where
 abbrev pub ZeroOr14 : ℕ → Type 0 → Type 0
 ZeroOr14 n Is = ((n ≡ 0) ↔ Is) × ((n ≡ 14) ↔ (Is → ⊥))
 
--- of NFO serial: "a reply must fill its slice exactly, with the shape, check and hex above"
+-- of NFO serial: "a reply must fill its slice exactly, with the shape, check and hex above". "Take a-f as well .. in replies the master side reads": any characters
+-- that spell the number and the value
 abbrev pub IsSerial : Serial.Reply → List ℕ → Type 0
-IsSerial (Serials.Told address e word) bytes = (address < 96) × (e .0 < 65536) × (word < 65536) × (bytes ≡ replyOf (address + 32) (e .0) word)
+IsSerial (Serials.Told address e word) bytes =
+    (address < 96) × (e .0 < 65536) × (word < 65536)
+    × (number : List ℕ) × (value : List ℕ) × Spells number (e .0) × Spells value word × (bytes ≡ replyWith (address + 32) number value)
 IsSerial (Serials.Acknowledged address) bytes = (address < 96) × (bytes ≡ ackOf (address + 32))
 IsSerial (Serials.Refused address) bytes = (address < 96) × (bytes ≡ nakOf (address + 32))
 IsSerial Serials.NotAReply bytes = ⊥
 
--- of Modbus: "address 1 to 247 and a normal answer of the four functions .. or exception", in the messages that its line makes of an address and a unit
-pub record Hears (made : ℕ → List ℕ → List ℕ) (hear : List ℕ → Heard) : Type 0 where
-  pub only : (bytes : List ℕ) → Bytes bytes → ZeroOr14 (replyNumber (hear bytes .reply)) (IsMessage made bytes (hear bytes))
+-- of Modbus: "address 1 to 247 and a normal answer of the four functions .. or exception", in the messages that its line makes of an address and a unit. The bytes
+-- are taken as the line would write them: a frame as it is, a text in capitals
+pub record Hears (asWritten : List ℕ → List ℕ) (made : ℕ → List ℕ → List ℕ) (hear : List ℕ → Heard) : Type 0 where
+  pub only : (bytes : List ℕ) → Bytes bytes → ZeroOr14 (replyNumber (hear bytes .reply)) (IsMessage made (asWritten bytes) (hear bytes))
   pub every : (r : Reply) (words : List ℕ) → IsReply r → length words ≡ registersOf r → InWidth r words
-      → hear (made (addressOf r) (replyUnit r words)) ≡ heard r words
+      → (bytes : List ℕ) → asWritten bytes ≡ made (addressOf r) (replyUnit r words) → hear bytes ≡ heard r words
 
 -- each tells of what it reads, and reads every reply there is
 pub record Hearing : Type 0 where
   pub serial-only : (bytes : List ℕ) → ZeroOr14 (SerialReplies.replyNumber (readOf bytes)) (IsSerial (readOf bytes) bytes)
   pub serial-every : (r : Serial.Reply) (bytes : List ℕ) → IsSerial r bytes → readOf bytes ≡ r
-  pub rtu : Hears rtuOf rtuHeard
-  pub ascii : Hears asciiOf asciiHeard
+  pub rtu : Hears (λ frame. frame) rtuOf rtuHeard
+  pub ascii : Hears capitals asciiOf asciiHeard
 
 pub record Demand1 : Type 0 where
   pub receiving : Receiving

@@ -4,6 +4,7 @@ use Rattle.demands.specs.Demand1.{Demand1}
 use Rattle.demands.specs.Host.{Host}
 use Rattle.demands.specs.Effects.{Effects}
 use Rattle.demands.specs.Demand2.{Demand2}
+use Rattle.demands.specs.Letters.{Letters}
 use Rattle.demands.specs.Demand3.{Demand3}
 use Rattle.demands.specs.Cases.{Cases}
 
@@ -13,5 +14,6 @@ pub record Demands : Type 0 where
   pub host : Host
   pub effects : Effects
   pub demand-2 : Demand2
+  pub letters : Letters
   pub demand-3 : Demand3
   pub cases : Cases

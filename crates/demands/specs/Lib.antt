@@ -6,6 +6,7 @@
 --   Host      what start, restart and the host's events do
 --   Effects   what a message does, by what a following read tells
 --   Demand2   what the master wrote arrives, and what was answered is heard
+--   Letters   small letters are taken, capitals are written
 --   Demand3   streams, cut anywhere
 --   Cases     document 01's worked cases
 --   Demands   all of it, one type, of which proofs/Demands.antt has the proof
@@ -16,6 +17,7 @@ pub mod Demand1
 pub mod Host
 pub mod Effects
 pub mod Demand2
+pub mod Letters
 pub mod Demand3
 pub mod Cases
 pub mod Demands

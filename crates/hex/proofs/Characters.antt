@@ -1,4 +1,4 @@
--- What a character is worth, by where it stands among 0-9 and A-F. Assumes nothing.
+-- What a character is worth, and what it is in capitals, by where it stands among 0-9, A-F and a-f. Assumes nothing.
 use mathlib.Core.Path.{_≡_, refl, sym, ap, _∙_}
 use mathlib.Core.Bool.{Bool, true, false}
 use Prim.Native.Nat.{ℕ, _+_, _-_, _%_, _<_, _≤_}
@@ -10,7 +10,7 @@ use Rattle.base.proofs.Arms.{NoneOf, upFrom, past}
 use Rattle.base.proofs.Tests.{both-out}
 use Rattle.hex.specs.declared.Digit.{Digit}
 use Rattle.hex.specs.declared.Digit.the-variants.{Value, NotHex}
-use Rattle.hex.specs.Hex.{isNumeral, isCapital, isHex, digitValue, digitOf}
+use Rattle.hex.specs.Hex.{isNumeral, isCapital, isSmall, isHex, digitValue, digitOf, capitalOf}
 
 -- ---- by where it stands
 pub value-numeral : (c : ℕ) → 0x30 ≤ c → c ≤ 0x39 → Value (c - 0x30) ≡ digitValue c
@@ -21,18 +21,26 @@ pub value-capital : (c : ℕ) → 0x41 ≤ c → c ≤ 0x46 → Value (c - 0x41 
 unfolding digitValue
 value-capital c h k = simp (le-leb 0x30 c (omega arith), lt-leb c 0x39 (omega arith), le-leb 0x41 c h, le-leb c 0x46 k)
 
--- ---- what holds of a numeral's worth, of a capital's and of no digit holds of every character
-pub by-kind : (P : Bool → Digit → Type 0) (c : ℕ) → (0x30 ≤ c → c ≤ 0x39 → P true (Value (c - 0x30)))
-    → (0x41 ≤ c → c ≤ 0x46 → P true (Value (c - 0x41 + 10))) → P false NotHex → P (isHex c) (digitValue c)
-unfolding isHex digitValue
-by-kind P c numeral capital other = go (isNumeral c) (isCapital c) refl refl
-  where
-    go : (a b : Bool) → isNumeral c ≡ a → isCapital c ≡ b → P (either a b) (pick a (Value (c - 0x30)) (pick b (Value (c - 0x41 + 10)) NotHex))
-    go true b p q = let r = both-out (leb 0x30 c) (leb c 0x39) p in numeral (leb-true 0x30 c (r .0)) (leb-true c 0x39 (r .1))
-    go false true p q = let r = both-out (leb 0x41 c) (leb c 0x46) q in capital (leb-true 0x41 c (r .0)) (leb-true c 0x46 (r .1))
-    go false false p q = other
+pub value-small : (c : ℕ) → 0x61 ≤ c → c ≤ 0x66 → Value (c - 0x61 + 10) ≡ digitValue c
+unfolding digitValue
+value-small c h k =
+    simp (le-leb 0x30 c (omega arith), lt-leb c 0x39 (omega arith), le-leb 0x41 c (omega arith), lt-leb c 0x46 (omega arith), le-leb 0x61 c h, le-leb c 0x66 k)
 
--- ---- by the code's tests: n is the character less `0`, m less `A`, modulo 256
+-- ---- what holds of a numeral's worth, of a capital's, of a small letter's and of no digit holds of every character
+pub by-kind : (P : Bool → Digit → Type 0) (c : ℕ) → (0x30 ≤ c → c ≤ 0x39 → P true (Value (c - 0x30)))
+    → (0x41 ≤ c → c ≤ 0x46 → P true (Value (c - 0x41 + 10)))
+    → (0x61 ≤ c → c ≤ 0x66 → P true (Value (c - 0x61 + 10))) → P false NotHex → P (isHex c) (digitValue c)
+unfolding isHex digitValue
+by-kind P c numeral capital small other = go (isNumeral c) (isCapital c) (isSmall c) refl refl refl
+  where
+    go : (a b s : Bool) → isNumeral c ≡ a → isCapital c ≡ b → isSmall c ≡ s
+        → P (either a (either b s)) (pick a (Value (c - 0x30)) (pick b (Value (c - 0x41 + 10)) (pick s (Value (c - 0x61 + 10)) NotHex)))
+    go true b s p q r = let h = both-out (leb 0x30 c) (leb c 0x39) p in numeral (leb-true 0x30 c (h .0)) (leb-true c 0x39 (h .1))
+    go false true s p q r = let h = both-out (leb 0x41 c) (leb c 0x46) q in capital (leb-true 0x41 c (h .0)) (leb-true c 0x46 (h .1))
+    go false false true p q r = let h = both-out (leb 0x61 c) (leb c 0x66) r in small (leb-true 0x61 c (h .0)) (leb-true c 0x66 (h .1))
+    go false false false p q r = other
+
+-- ---- by the code's tests: n is the character less `0`, m less `A`, s less `a`, modulo 256
 module _ (c n : ℕ) (wraps : (n + 0x30) % 256 ≡ c) where
   pub value-first : n < 10 → Value n ≡ digitValue c
   value-first h = let e : n ≡ c - 0x30 = omega arith in ap Value e ∙ value-numeral c (omega arith) (omega arith)
@@ -41,8 +49,35 @@ module _ (c n : ℕ) (wraps : (n + 0x30) % 256 ≡ c) where
     pub value-second : m < 6 → Value (m + 10) ≡ digitValue c
     value-second h = let e : m + 10 ≡ c - 0x41 + 10 = omega arith in ap Value e ∙ value-capital c (omega arith) (omega arith)
 
-    pub value-none : 6 ≤ m → m < 256 → NotHex ≡ digitValue c
-    value-none h k = by-kind (λ b d. NotHex ≡ d) c (λ p q. absurd (omega (arith, p, q))) (λ p q. absurd (omega (arith, p, q))) refl
+    module _ (over-too : 6 ≤ m) (byte-too : m < 256) (s : ℕ) (wraps-again : (s + 0x61) % 256 ≡ c) where
+      pub value-third : s < 6 → Value (s + 10) ≡ digitValue c
+      value-third h = let e : s + 10 ≡ c - 0x61 + 10 = omega arith in ap Value e ∙ value-small c (omega arith) (omega arith)
+
+      pub value-none : 6 ≤ s → s < 256 → NotHex ≡ digitValue c
+      value-none h k =
+          by-kind (λ b d. NotHex ≡ d) c (λ p q. absurd (omega (arith, p, q))) (λ p q. absurd (omega (arith, p, q))) (λ p q. absurd (omega (arith, p, q))) refl
+
+-- ---- in capitals: a-f are A-F, and all else stays
+pub capital-below : (c : ℕ) → c < 0x61 → c ≡ capitalOf c
+unfolding capitalOf
+capital-below c h = simp (lt-leb 0x61 c h)
+
+pub capital-above : (c : ℕ) → 0x66 < c → c ≡ capitalOf c
+unfolding capitalOf
+capital-above c h = simp (le-leb 0x61 c (omega arith), lt-leb c 0x66 h)
+
+pub capital-small : (c : ℕ) → 0x61 ≤ c → c ≤ 0x66 → c - 0x20 ≡ capitalOf c
+unfolding capitalOf
+capital-small c h k = simp (le-leb 0x61 c h, le-leb c 0x66 k)
+
+-- what holds of a small letter's capital, and of every other character, holds of each character in capitals
+pub by-case : (P : ℕ → Type 0) (c : ℕ) → (0x61 ≤ c → c ≤ 0x66 → P (c - 0x20)) → (c ≡ capitalOf c → P c) → P (capitalOf c)
+unfolding capitalOf
+by-case P c small other = go (isSmall c) refl
+  where
+    go : (t : Bool) → isSmall c ≡ t → P (pick t (c - 0x20) c)
+    go true e = let h = both-out (leb 0x61 c) (leb c 0x66) e in small (leb-true 0x61 c (h .0)) (leb-true c 0x66 (h .1))
+    go false e = other (simp e)
 
 -- ---- the digit of a number
 pub digit-numeral : (n : ℕ) → n < 10 → digitOf n ≡ 0x30 + n

@@ -1,3 +1,4 @@
 pub mod Characters
 pub mod RoundTrip
+pub mod Capitals
 pub mod Laws

@@ -1,4 +1,4 @@
--- What was encoded is decoded, and the other way round: digits, pairs and whole texts. Assumes nothing.
+-- What was encoded is decoded, and what was decoded is encoded in capitals: digits, pairs and whole texts. Assumes nothing.
 use mathlib.Core.Path.{_≡_, refl, sym, ap, ap₂, _∙_}
 use mathlib.Core.Bool.{Bool, true, false}
 use mathlib.Core.List.{List, [], _∷_, _++_}
@@ -14,8 +14,8 @@ use Rattle.hex.specs.declared.Digit.{Digit}
 use Rattle.hex.specs.declared.Digit.the-variants.{Value, NotHex}
 use Rattle.hex.specs.declared.Pair.{Pair}
 use Rattle.hex.specs.declared.Pair.the-variants.{Byte, NoByte}
-use Rattle.hex.specs.Hex.{isHex, allHex, digitValue, digitOf, joined, pairValue, hexOf, spelt, bytesOf}
-use Rattle.hex.proofs.Characters.{value-numeral, value-capital, by-kind, digit-numeral, digit-capital, digit-rest}
+use Rattle.hex.specs.Hex.{isHex, allHex, digitValue, digitOf, capitalOf, capitals, joined, pairValue, hexOf, spelt, bytesOf}
+use Rattle.hex.proofs.Characters.{value-numeral, value-capital, by-kind, capital-below, capital-small, digit-numeral, digit-capital, digit-rest}
 
 -- ---- digits
 
@@ -31,12 +31,13 @@ value-digit n h = go (ltb n 10) refl
         let k : 10 ≤ n = ltb-false n 10 e in
         ap digitValue (digit-capital n k h) ∙ sym (value-capital (0x41 + (n - 10)) (omega arith) (omega arith)) ∙ ap Value (omega arith)
 
--- the digit of a character's worth is the character
-pub digit-value : (c n : ℕ) → digitValue c ≡ Value n → digitOf n ≡ c
+-- the digit of a character's worth is the character in capitals
+pub digit-value : (c n : ℕ) → digitValue c ≡ Value n → digitOf n ≡ capitalOf c
 digit-value c n =
-    by-kind (λ (t : Bool) (d : Digit). d ≡ Value n → digitOf n ≡ c) c
-    (λ h k e. let w : c - 0x30 ≡ n = cc in digit-numeral n (omega arith) ∙ omega arith)
-    (λ h k e. let w : c - 0x41 + 10 ≡ n = cc in digit-capital n (omega arith) (omega arith) ∙ omega arith)
+    by-kind (λ (t : Bool) (d : Digit). d ≡ Value n → digitOf n ≡ capitalOf c) c
+    (λ h k e. let w : c - 0x30 ≡ n = cc in digit-numeral n (omega arith) ∙ omega (arith, capital-below c (omega arith)))
+    (λ h k e. let w : c - 0x41 + 10 ≡ n = cc in digit-capital n (omega arith) (omega arith) ∙ omega (arith, capital-below c (omega arith)))
+    (λ h k e. let w : c - 0x61 + 10 ≡ n = cc in digit-capital n (omega arith) (omega arith) ∙ omega (arith, capital-small c h k))
     (λ e. let z : _≡_ {A = ℕ} 0 1 = cc in absurd (omega arith))
 
 -- a digit is worth less than 16
@@ -45,6 +46,7 @@ value-below c n =
     by-kind (λ (t : Bool) (d : Digit). d ≡ Value n → n < 16) c
     (λ h k e. let w : c - 0x30 ≡ n = cc in omega arith)
     (λ h k e. let w : c - 0x41 + 10 ≡ n = cc in omega arith)
+    (λ h k e. let w : c - 0x61 + 10 ≡ n = cc in omega arith)
     (λ e. let z : _≡_ {A = ℕ} 0 1 = cc in absurd (omega arith))
 
 -- a character is a hex digit exactly when it is worth a number
@@ -53,7 +55,7 @@ isValue (Value n) = true
 isValue NotHex = false
 
 pub hex-is-value : (c : ℕ) → isHex c ≡ isValue (digitValue c)
-hex-is-value c = by-kind (λ (t : Bool) (d : Digit). t ≡ isValue d) c (λ h k. refl) (λ h k. refl) refl
+hex-is-value c = by-kind (λ (t : Bool) (d : Digit). t ≡ isValue d) c (λ h k. refl) (λ h k. refl) (λ h k. refl) refl
 
 pub hex-value : (c : ℕ) → isHex c ≡ true → (n : ℕ) × (digitValue c ≡ Value n)
 hex-value c h = go (digitValue c) (sym (hex-is-value c) ∙ h)
@@ -69,11 +71,11 @@ value-hex c n e = hex-is-value c ∙ ap isValue e
 pub digit-hex : (n : ℕ) → isHex (digitOf n) ≡ true
 digit-hex n = ap isHex (sym (digit-rest n)) ∙ value-hex (digitOf (n % 16)) (n % 16) (value-digit (n % 16) (omega arith))
 
--- hex digits lie in 30h to 46h, and none is what marks a message: `:`, CR, LF, EOT and `=`
-pub hex-range : (c : ℕ) → isHex c ≡ true → (0x30 ≤ c) × (c ≤ 0x46)
+-- hex digits lie in 30h to 66h, and none is what marks a message: `:`, CR, LF, EOT and `=`
+pub hex-range : (c : ℕ) → isHex c ≡ true → (0x30 ≤ c) × (c ≤ 0x66)
 hex-range c =
-    by-kind (λ (t : Bool) (d : Digit). t ≡ true → (0x30 ≤ c) × (c ≤ 0x46)) c
-    (λ h k e. (h, omega arith)) (λ h k e. (omega arith, k)) (λ e. absurd (not-both e refl))
+    by-kind (λ (t : Bool) (d : Digit). t ≡ true → (0x30 ≤ c) × (c ≤ 0x66)) c
+    (λ h k e. (h, omega arith)) (λ h k e. (omega arith, omega arith)) (λ h k e. (omega arith, k)) (λ e. absurd (not-both e refl))
 
 pub hex-other : (c k : ℕ) → isHex c ≡ true → isHex k ≡ false → c ≡ k → ⊥
 hex-other c k h n e = not-both h (ap isHex e ∙ n)
@@ -116,7 +118,7 @@ pair-parts high low b = go (digitValue high) (digitValue low) refl refl
     go (Value n) NotHex p q e = let z : _≡_ {A = ℕ} 0 1 = cc in absurd (omega arith)
     go NotHex d p q e = let z : _≡_ {A = ℕ} 0 1 = cc in absurd (omega arith)
 
--- it is a byte, both characters are hex digits, and they are the byte's digits
+-- it is a byte, both characters are hex digits, and in capitals they are the byte's digits
 pub pair-below : (high low b : ℕ) → pairValue high low ≡ Byte b → b < 256
 pair-below high low b e =
     let r = pair-parts high low b e in
@@ -127,7 +129,7 @@ pair-hex high low b e =
     let r = pair-parts high low b e in
     (value-hex high (r .0) (r .2), value-hex low (r .1) (r .3))
 
-pub digits-pair : (high low b : ℕ) → pairValue high low ≡ Byte b → (digitOf (b / 16) ≡ high) × (digitOf (b % 16) ≡ low)
+pub digits-pair : (high low b : ℕ) → pairValue high low ≡ Byte b → (digitOf (b / 16) ≡ capitalOf high) × (digitOf (b % 16) ≡ capitalOf low)
 digits-pair high low b e =
     let r = pair-parts high low b e in
     let h : b / 16 ≡ r .0 = omega (arith, value-below high (r .0) (r .2), value-below low (r .1) (r .3), r .4) in
@@ -195,7 +197,7 @@ length-bytes (high ∷ low ∷ t) = go (pairValue high low) (length-bytes t)
     go (Byte b) h = omega arith
     go NoByte h = omega arith
 
--- a text is whole where it is pairs of hex digits to its end: "k byte pairs in capital hex". `decode` tells this by its count
+-- a text is whole where it is pairs of hex digits to its end: "k byte pairs". `decode` tells this by its count
 abbrev pub Whole : List ℕ → Type 0
 Whole t = 2 * length (bytesOf t) ≡ length t
 
@@ -222,20 +224,17 @@ whole-hex (high ∷ low ∷ t) e = go (pairValue high low) refl e (whole-hex t)
     go (Byte b) q e ih = let r = pair-hex high low b q in both-in (r .0) (both-in (r .1) (ih (omega arith)))
     go NoByte q e ih = absurd (omega arith)
 
--- the digits of the bytes of a whole text are the text
-pub hex-of-bytes : (t : List ℕ) → Whole t → hexOf (bytesOf t) ≡ t
-unfolding bytesOf hexOf
+-- the digits of the bytes of a whole text are the text in capitals
+pub hex-of-bytes : (t : List ℕ) → Whole t → hexOf (bytesOf t) ≡ capitals t
+unfolding bytesOf hexOf capitals
 hex-of-bytes [] e = refl
 hex-of-bytes (c ∷ []) e = absurd (omega arith)
 hex-of-bytes (high ∷ low ∷ t) e = go (pairValue high low) refl e (hex-of-bytes t)
   where
-    go : (p : Pair) → pairValue high low ≡ p → 2 * length (spelt p (bytesOf t)) ≡ suc (suc (length t)) → (Whole t → hexOf (bytesOf t) ≡ t)
-        → hexOf (spelt p (bytesOf t)) ≡ high ∷ low ∷ t
+    go : (p : Pair) → pairValue high low ≡ p → 2 * length (spelt p (bytesOf t)) ≡ suc (suc (length t)) → (Whole t → hexOf (bytesOf t) ≡ capitals t)
+        → hexOf (spelt p (bytesOf t)) ≡ capitalOf high ∷ capitalOf low ∷ capitals t
     go (Byte b) q e ih = let r = digits-pair high low b q in (λ i. (r .0) i ∷ (r .1) i ∷ ih (omega arith) i)
     go NoByte q e ih = absurd (omega arith)
-
-pub hex-of-even : (t : List ℕ) (k : ℕ) → allHex t ≡ true → length t ≡ 2 * k → hexOf (bytesOf t) ≡ t
-hex-of-even t k h e = hex-of-bytes t (hex-whole t k h e)
 
 -- after a whole text, the bytes go on
 pub bytes-append : (t u : List ℕ) → Whole t → bytesOf (t ++ u) ≡ bytesOf t ++ bytesOf u

@@ -1,10 +1,10 @@
-// Hex digits, capitals only, and bytes as pairs of them.
-// `digit_value` and `digit_of` turn one character, `pair_value` two, `encode` and `decode` whole slices.
+// Hex digits, and bytes as pairs of them: capitals and small letters are read, capitals are written.
+// `digit_value`, `digit_of` and `capital_of` turn one character, `pair_value` two, `encode` and `decode` whole slices.
 ghost use mathlib.Core.Path.{_≡_};
 ghost use Prim.Native.Nat.{min};
 ghost use lib.ListN.{length, set};
 ghost use lib.Seq.{sets};
-ghost use Rattle.hex.specs.Hex.{digitValue, digitOf, pairValue, hexOf, bytesOf};
+ghost use Rattle.hex.specs.Hex.{digitValue, digitOf, capitalOf, pairValue, hexOf, bytesOf};
 
 // What a character is worth as a hex digit.
 pub enum Digit {
@@ -18,7 +18,7 @@ pub enum Pair {
     NoByte,
 }
 
-// What `character` is worth: 0 to 15, or no hex digit. A small letter is none. A character below `0` or `A` wraps to a number that is too high.
+// What `character` is worth: 0 to 15, or no hex digit. A character below `0`, `A` or `a` wraps to a number that is too high.
 pub fn digit_value(character: u8) -> Digit
     ensures { λ r. ⌜ r ≡ digitValue character ⌝ }
 {
@@ -29,6 +29,10 @@ pub fn digit_value(character: u8) -> Digit
     let capital = std::num::wrapping_sub_u8(character, b'A');
     if capital < 6 {
         return Digit::Value(capital + 10);
+    }
+    let small = std::num::wrapping_sub_u8(character, b'a');
+    if small < 6 {
+        return Digit::Value(small + 10);
     }
     Digit::NotHex
 }
@@ -55,6 +59,19 @@ pub fn digit_of(number: u8) -> u8
         14 => b'E',
         _ => b'F',
     }
+}
+
+// `character` as it is written: a-f as A-F, every other as it is.
+pub fn capital_of(character: u8) -> u8
+    ensures { λ r. ⌜ r ≡ capitalOf character ⌝ }
+{
+    if character < b'a' {
+        return character;
+    }
+    if b'f' < character {
+        return character;
+    }
+    character - 32
 }
 
 // The byte that two digits spell, the high one first.

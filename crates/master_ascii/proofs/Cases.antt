@@ -4,7 +4,7 @@ use mathlib.Core.List.{List, [], map}
 use Prim.Native.Nat.{ℕ}
 use Rattle.base.specs.Bytes.{same}
 use Rattle.base.specs.Buffers.{front, fitting}
-use Rattle.hex.specs.Hex.{digitOf, digitValue, pairValue, hexOf, bytesOf}
+use Rattle.hex.specs.Hex.{digitOf, capitalOf, capitals, digitValue, pairValue, hexOf, bytesOf}
 use Rattle.checks.specs.Lrc.{sumOf, addsToZero, lrcOf}
 use Rattle.modbus_words.specs.Words.{wordBytes, wordAt}
 use Rattle.ascii.specs.Ascii.{textOf, bytesIn, counted, right, formed, asciiOf, unitAmong}
@@ -24,5 +24,5 @@ unfolding bytesSent fitting sayable readSayable requestUnit headOf wordBytes asc
 requests-written = refl
 
 pub replies-read : map (λ (t : List ℕ × Heard). (t .0, asciiHeard (t .0))) replies ≡ replies
-unfolding asciiHeard formed same right counted addsToZero sumOf bytesIn textOf hexOf digitOf bytesOf pairValue digitValue unitAmong heardOf replyOf unitTells tellsData readCount tellsOne tellsMany tellsException wordsFrom wordAt front
+unfolding asciiHeard formed same capitals capitalOf right counted addsToZero sumOf bytesIn textOf hexOf digitOf bytesOf pairValue digitValue unitAmong heardOf replyOf unitTells tellsData readCount tellsOne tellsMany tellsException wordsFrom wordAt front
 replies-read = refl

@@ -1,23 +1,21 @@
 -- A text that begins with `:` and ends with CR LF, and the bytes that the characters between spell: it is a message exactly where these are all of it, and right.
 -- Assumes nothing.
 use mathlib.Core.Path.{_≡_, refl, sym, ap, _∙_}
-use mathlib.Core.Bool.{Bool, true, false}
+use mathlib.Core.Bool.{Bool, true}
 use mathlib.Core.List.{List, [], _∷_, _++_}
 use Prim.Native.Nat.{ℕ, suc, _+_, _-_, _*_, _≤_, _<_}
 use native.Mathlib.Omega.{arith}
 use borrow.Author.Tests.{leb-true, le-leb, eqb-true, eq-eqb}
 use lib.Dec.{leb, eqb}
-use lib.ListN.{length, take, drop, getD, length-take, length-drop, take-append-drop, drop-of-length-le}
+use lib.ListN.{length, take, drop, getD, length-take, length-drop, length-append, take-append-drop, drop-of-length-le}
 use lib.Seq.{drop-cons, drop-drop, take-at, getD-at, getD-append-add}
 use Rattle.base.specs.Choice.{both}
-use Rattle.base.specs.Bytes.{Bytes, same}
-use Rattle.base.proofs.Tests.{both-out, both-in, both-false}
-use Rattle.hex.specs.Hex.{hexOf, bytesOf}
-use Rattle.hex.proofs.RoundTrip.{length-hex, bytes-of-hex, bytes-below, length-bytes, hex-of-bytes}
+use Rattle.base.proofs.Tests.{both-out, both-in}
+use Rattle.hex.specs.Hex.{bytesOf}
+use Rattle.hex.proofs.RoundTrip.{Whole, length-bytes}
 use Rattle.modbus.specs.Request.{between}
-use Rattle.checks.specs.Lrc.{addsToZero}
-use Rattle.ascii.specs.Ascii.{textOf, bytesIn, counted, right, formed}
-use Rattle.ascii.proofs.Message.{text-bytes, text-length, counted-out, message-out, message-in}
+use Rattle.ascii.specs.Ascii.{bytesIn, right, formed}
+use Rattle.ascii.proofs.Message.{line-bytes, line-formed, message-out}
 use Rattle.master_ascii.specs.Heard.{framed}
 
 -- the characters between
@@ -71,7 +69,7 @@ inner-few m e =
     let h = framed-out m e in
     omega (arith, length-bytes (inner m), length-take (length m - 2 - 1) (drop 1 m), h .most)
 
--- ---- a text so framed, whose characters between are all pairs, is the text of their bytes
+-- ---- a text so framed, whose characters between are all pairs, is `:`, these and CR LF
 split : (m : List ℕ) → 3 ≤ length m → m ≡ getD m 0 0 ∷ inner m ++ (getD m (length m - 2) 0 ∷ getD m (length m - 1) 0 ∷ [])
 split m h =
     let n : ℕ = length m - 2 - 1 in
@@ -91,61 +89,55 @@ split m h =
     ∙ ap (λ (t : List ℕ). getD m (suc n) 0 ∷ t) (drop-cons m (suc (suc n)) 0 c ∙ ap (λ (t : List ℕ). getD m (suc (suc n)) 0 ∷ t) (drop-of-length-le m d))
     ∙ (λ i. getD m (p i) 0 ∷ getD m (q i) 0 ∷ [])))
 
-right-formed : (b : List ℕ) → Bytes b → right b ≡ true → formed (textOf b) ≡ true
-unfolding right
-right-formed b below r =
-    let h = both-out (counted b) (addsToZero b) r in
-    let l = counted-out b (h .0) in
-    message-in b below (l .0) (l .1) (h .1)
-
-wrong-formed : (m : List ℕ) → right (bytesIn m) ≡ false → formed m ≡ false
-unfolding formed
-wrong-formed m r = rw r (both-false (same m (textOf (bytesIn m))))
-
 module _ (m : List ℕ) (e : framed m ≡ true) (whole : 2 * length (bytesOf (inner m)) + 3 ≡ length m) where
-  is-text : m ≡ textOf (bytesOf (inner m))
-  unfolding textOf
+  all : Whole (inner m)
+  all = omega (arith, whole, length-take (length m - 2 - 1) (drop 1 m), length-drop 1 m, framed-out m e .least)
+
+  is-text : m ≡ 0x3A ∷ inner m ++ 0x0D ∷ 0x0A ∷ []
   is-text =
       let h = framed-out m e in
-      let all : 2 * length (bytesOf (inner m)) ≡ length (inner m) = omega (arith, length-take (length m - 2 - 1) (drop 1 m), length-drop 1 m, h .least) in
-      split m (omega (arith, h .least)) ∙ (λ i. h .colon i ∷ sym (hex-of-bytes (inner m) all) i ++ (h .cr i ∷ h .lf i ∷ []))
+      split m (omega (arith, h .least)) ∙ (λ i. h .colon i ∷ inner m ++ (h .cr i ∷ h .lf i ∷ []))
 
   pub inner-bytes : bytesIn m ≡ bytesOf (inner m)
-  inner-bytes = ap bytesIn is-text ∙ text-bytes (bytesOf (inner m)) (bytes-below (inner m))
+  inner-bytes = ap bytesIn is-text ∙ line-bytes (inner m) all
 
   -- it is a message where these are right
   pub inner-formed : formed m ≡ right (bytesIn m)
-  inner-formed = go (right (bytesIn m)) refl
-    where
-      go : (t : Bool) → right (bytesIn m) ≡ t → formed m ≡ t
-      go true r = ap formed is-text ∙ right-formed (bytesOf (inner m)) (bytes-below (inner m)) (sym (ap right inner-bytes) ∙ r)
-      go false r = wrong-formed m r
+  inner-formed = ap formed is-text ∙ line-formed (inner m) all ∙ ap right (sym inner-bytes)
 
 -- ---- a message is such a text
-module _ (b : List ℕ) (low : 3 ≤ length b) (high : length b ≤ 255) where
-  text-framed : Framed (textOf b)
-  unfolding textOf
+module _ (d : List ℕ) (whole : Whole d) (low : 3 ≤ length (bytesOf d)) (high : length (bytesOf d) ≤ 255) where
+  text : List ℕ
+  text = 0x3A ∷ d ++ 0x0D ∷ 0x0A ∷ []
+
+  size : length text ≡ length d + 3
+  unfolding text
+  size = omega (arith, length-append d (0x0D ∷ 0x0A ∷ []))
+
+  text-framed : Framed text
+  unfolding text
   text-framed =
-      let n : length (textOf b) ≡ 2 * length b + 3 = text-length b in
-      let k : length (0x3A ∷ hexOf b) ≡ length (textOf b) - 2 = omega (arith, n, length-hex b) in
-      let l : length (textOf b) - 1 ≡ length (0x3A ∷ hexOf b) + 1 = omega (arith, n, length-hex b) in
+      let k : length (0x3A ∷ d) ≡ length text - 2 = omega (arith, size) in
+      let l : length text - 1 ≡ length (0x3A ∷ d) + 1 = omega (arith, size) in
       record {
-        least = omega (arith, n);
-        most = omega (arith, n);
+        least = omega (arith, size, whole);
+        most = omega (arith, size, whole);
         colon = refl;
-        cr = getD-at (0x3A ∷ hexOf b) 0x0D (0x0A ∷ []) 0 (length (textOf b) - 2) k;
-        lf = rw l (getD-append-add (0x3A ∷ hexOf b) (0x0D ∷ 0x0A ∷ []) 1 0);
+        cr = getD-at (0x3A ∷ d) 0x0D (0x0A ∷ []) 0 (length text - 2) k;
+        lf = rw l (getD-append-add (0x3A ∷ d) (0x0D ∷ 0x0A ∷ []) 1 0);
       }
 
-  text-inner : inner (textOf b) ≡ hexOf b
-  unfolding textOf
-  text-inner = take-at (hexOf b) (0x0D ∷ 0x0A ∷ []) (length (textOf b) - 2 - 1) (omega (arith, text-length b, length-hex b))
+  text-inner : inner text ≡ d
+  unfolding text
+  text-inner = take-at d (0x0D ∷ 0x0A ∷ []) (length text - 2 - 1) (omega (arith, size))
+
+  text-whole : 2 * length (bytesOf (inner text)) + 3 ≡ length text
+  text-whole = rw text-inner (omega (arith, size, whole))
 
 pub formed-framed : (m : List ℕ) → formed m ≡ true → framed m ≡ true
-formed-framed m e = let r = message-out m e in rw (r .text) (framed-in (textOf (r .bytes)) (text-framed (r .bytes) (r .low) (r .high)))
+unfolding text
+formed-framed m e = let r = message-out m e in rw (r .text) (framed-in _ (text-framed (r .digits) (r .whole) (r .low) (r .high)))
 
 pub formed-whole : (m : List ℕ) → formed m ≡ true → 2 * length (bytesOf (inner m)) + 3 ≡ length m
-formed-whole m e =
-    let r = message-out m e in
-    let is : bytesOf (inner (textOf (r .bytes))) ≡ r .bytes = ap bytesOf (text-inner (r .bytes) (r .low) (r .high)) ∙ bytes-of-hex (r .bytes) (r .below) in
-    rw (r .text) (omega (arith, ap length is, text-length (r .bytes)))
+unfolding text
+formed-whole m e = let r = message-out m e in rw (r .text) (text-whole (r .digits) (r .whole) (r .low) (r .high))

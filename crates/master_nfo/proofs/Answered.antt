@@ -1,5 +1,5 @@
 -- What is read: a written reply is read back, and nothing else is read. Assumes nothing.
-use mathlib.Core.Path.{_≡_, refl, sym, subst, _∙_}
+use mathlib.Core.Path.{_≡_, refl, sym, ap, subst, _∙_}
 use mathlib.Core.Bool.{Bool, true, false}
 use mathlib.Core.List.{List, [], _∷_}
 use Prim.Native.Nat.{ℕ, _+_, _-_, _<_}
@@ -16,15 +16,15 @@ use Rattle.nfo_parts.specs.declared.message.Parameter.the-variants.{Number, NoN
 use Rattle.nfo_parts.specs.declared.message.Value.{Value}
 use Rattle.nfo_parts.specs.declared.message.Value.the-variants.{Word, NotHex}
 use Rattle.nfo_parts.specs.Parts.{parameterAt, valueAt}
-use Rattle.nfo_parts.specs.Replies.{replyOf, ackOf, nakOf}
+use Rattle.nfo_parts.specs.Replies.{digitsOf, Spells, replyWith, replyOf, ackOf, nakOf}
 use Rattle.nfo.proofs.Shape.{whole-length, whole-at}
 use Rattle.nfo.proofs.Address.{adr-only}
-use Rattle.nfo_parts.proofs.Written.{reply-length}
+use Rattle.nfo_parts.proofs.Spelt.{digits-spell}
 use Rattle.master_nfo.specs.declared.replies.Reply.{Reply}
 use Rattle.master_nfo.specs.declared.replies.Reply.the-variants.{Told, Acknowledged, Refused, NotAReply}
 use Rattle.master_nfo.specs.Replies.{ack, nak, replied, toldBy, addressHeard, readOf}
-use Rattle.master_nfo.proofs.Words.{never, places, placed}
-use Rattle.master_nfo.proofs.Bytes.{reply-adr, reply-parameter, reply-value, reply-replied, replied-written}
+use Rattle.master_nfo.proofs.Words.{never, places, placed, charactersAt}
+use Rattle.master_nfo.proofs.Bytes.{reply-length, reply-parameter, reply-value, reply-replied, replied-written}
 
 -- ---- what is read is told, acknowledged, refused, or no reply
 told-cases : (P : Reply → Type 0) (a : ℕ) (q : Parameter) (v : Value) → P NotAReply → ((e : ENumber) (w : ℕ) → q ≡ Number e → v ≡ Word w → P (Told a e w)) → P (toldBy a q v)
@@ -45,15 +45,19 @@ module _ (s : List ℕ) (P : Reply → Type 0) (none : P NotAReply) where
       go false false true p q h = told-cases P (addressHeard s) (parameterAt 2 s) (valueAt 8 s) none (λ e w f g. told e w h f g)
       go false false false p q h = none
 
--- ---- reading back what was written
-module _ (adr e w : ℕ) (a : fits ADR adr ≡ true) where
-  long-alone : (ks : List Kind) → (length ks ≡ 14 → ⊥) → whole ks (replyOf adr e w) ≡ false
-  long-alone ks n = is-false (whole ks (replyOf adr e w)) (λ h. n (sym (whole-length ks (replyOf adr e w) h) ∙ reply-length adr e w))
+-- ---- reading back what was written, in either letters
+module _ (adr e w : ℕ) (number value : List ℕ) (p : Spells number e) (v : Spells value w) (a : fits ADR adr ≡ true) where
+  long-alone : (ks : List Kind) → (length ks ≡ 14 → ⊥) → whole ks (replyWith adr number value) ≡ false
+  long-alone ks n = is-false (whole ks (replyWith adr number value)) (λ h. n (sym (whole-length ks (replyWith adr number value) h) ∙ reply-length adr e w number value p v))
 
-  pub reply-read : e < 65536 → w < 65536 → readOf (replyOf adr e w) ≡ Told (adr - 32) (record { 0 = e }) w
+  pub spelt-read : e < 65536 → w < 65536 → readOf (replyWith adr number value) ≡ Told (adr - 32) (record { 0 = e }) w
   unfolding readOf ack nak
-  reply-read h k =
-      simp (long-alone ack (λ q. omega arith), long-alone nak (λ q. omega arith), reply-replied adr e w a, reply-parameter adr e w h, reply-value adr e w k, reply-adr adr e w)
+  spelt-read h k =
+      simp (long-alone ack (λ q. omega arith), long-alone nak (λ q. omega arith), reply-replied adr e w number value p v a, reply-parameter adr e w number value p v h, reply-value adr e w number value p v k)
+
+pub reply-read : (adr e w : ℕ) → fits ADR adr ≡ true → e < 65536 → w < 65536 → readOf (replyOf adr e w) ≡ Told (adr - 32) (record { 0 = e }) w
+unfolding replyOf
+reply-read adr e w a h k = spelt-read adr e w (digitsOf e) (digitsOf w) (digits-spell e) (digits-spell w) a h k
 
 -- "ACK: ADR 06. NAK: ADR 15": they are read so, by their second byte
 module _ (adr : ℕ) (a : fits ADR adr ≡ true) where
@@ -78,9 +82,14 @@ two-placed s c a h e =
     let list : s ≡ places 2 (λ (i : ℕ). getD s i 0) = placed s 2 (whole-length (ADR ∷ byte c ∷ []) s h) in
     (r .0, list ∙ cc)
 
+-- a REPLY from an address, in either letters
+abbrev pub TellsBy : List ℕ → ℕ → ℕ → ℕ → Type 0
+TellsBy s a e w =
+    (a < 96) × (e < 65536) × (w < 65536) × (number : List ℕ) × (value : List ℕ) × Spells number e × Spells value w × (s ≡ replyWith (a + 32) number value)
+
 module _ (s : List ℕ) (a : ℕ) where
-  pub told-only : (e : ENumber) (w : ℕ) → readOf s ≡ Told a e w → (a < 96) × (e .0 < 65536) × (w < 65536) × (s ≡ replyOf (a + 32) (e .0) w)
-  told-only e w = read-cases s (λ (r : Reply). r ≡ Told a e w → (a < 96) × (e .0 < 65536) × (w < 65536) × (s ≡ replyOf (a + 32) (e .0) w))
+  pub told-only : (e : ENumber) (w : ℕ) → readOf s ≡ Told a e w → TellsBy s a (e .0) w
+  told-only e w = read-cases s (λ (r : Reply). r ≡ Told a e w → TellsBy s a (e .0) w)
       (λ k. never (cc))
       (λ h k. never (cc))
       (λ h k. never (cc))
@@ -89,7 +98,9 @@ module _ (s : List ℕ) (a : ℕ) where
       let same-e : e₂ ≡ e = cc in
       let same-w : w₂ ≡ w = cc in
       let t = adr-read s a (r .adr) (cc) in
-      (t .0, subst (λ (x : ENumber). x .0 < 65536) same-e (r .number), subst (λ (x : ℕ). x < 65536) same-w (r .value), r .same ∙ (λ i. replyOf ((t .1) i) (same-e i .0) (same-w i))))
+      let number : (e .0 < 65536) × Spells (charactersAt 3 s) (e .0) = subst (λ (x : ENumber). (x .0 < 65536) × Spells (charactersAt 3 s) (x .0)) same-e (r .number) in
+      let value : (w < 65536) × Spells (charactersAt 8 s) w = subst (λ (x : ℕ). (x < 65536) × Spells (charactersAt 8 s) x) same-w (r .value) in
+      (t .0, number .0, value .0, charactersAt 3 s, charactersAt 8 s, number .1, value .1, r .same ∙ ap (λ (x : ℕ). replyWith x (charactersAt 3 s) (charactersAt 8 s)) (t .1)))
 
   pub acknowledged-only : readOf s ≡ Acknowledged a → (a < 96) × (s ≡ ackOf (a + 32))
   unfolding ack ackOf

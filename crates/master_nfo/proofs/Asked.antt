@@ -10,7 +10,7 @@ use lib.Seq.{sets}
 use Rattle.base.specs.Buffers.{front, fitting}
 use Rattle.base.proofs.Tests.{both-out, is-false}
 use Rattle.hex.specs.Hex.{hexOf}
-use Rattle.nfo_parts.specs.Replies.{digitsOf, bodyOf, replyOf}
+use Rattle.nfo_parts.specs.Replies.{digitsOf, replyOf}
 use Rattle.master.specs.declared.Sent.{Sent}
 use Rattle.master.specs.Sent.{sentOf, bytesSent}
 use Rattle.master.proofs.Sends.{said-sent, said-lent}
@@ -61,5 +61,5 @@ abbrev fours : List ℕ
 fours = 4 ∷ 4 ∷ 4 ∷ 4 ∷ 4 ∷ 4 ∷ 4 ∷ 4 ∷ 4 ∷ 4 ∷ 4 ∷ 4 ∷ 4 ∷ 4 ∷ []
 
 pub select-made : (a e w : ℕ) (m : List ℕ) → m ≡ front (fitting (replyOf (a + 32) e w) 14) fours → 0x04 ∷ m ++ [] ≡ selectOf a e w
-unfolding selectOf front fitting replyOf bodyOf digitsOf hexOf
+unfolding selectOf front fitting replyOf digitsOf hexOf
 select-made a e w m q = rw q

@@ -1,4 +1,4 @@
--- The bytes of a REPLY: what was written has its shape, check and hex, and what has them was written so. Assumes nothing.
+-- The bytes of a REPLY: what has these characters for number and value has its shape, check and hex, and what has them is such a text. Assumes nothing.
 use mathlib.Core.Path.{_≡_, refl, sym, ap, _∙_}
 use mathlib.Core.Bool.{Bool, true, false}
 use mathlib.Core.List.{List, _∷_}
@@ -9,7 +9,6 @@ use lib.Dec.{eqb}
 use lib.ListN.{length, getD, take, drop}
 use Rattle.base.specs.Choice.{pick}
 use Rattle.base.proofs.Tests.{both-out, is-false}
-use Rattle.hex.specs.Hex.{hexOf}
 use Rattle.checks.specs.Bcc.{bccOf}
 use Rattle.table.specs.declared.labels.ENumber.{ENumber}
 use Rattle.nfo.specs.Shape.{any, fits, whole}
@@ -18,35 +17,31 @@ use Rattle.nfo_parts.specs.declared.message.Parameter.the-variants.{Number, NoN
 use Rattle.nfo_parts.specs.declared.message.Value.{Value}
 use Rattle.nfo_parts.specs.declared.message.Value.the-variants.{Word, NotHex}
 use Rattle.nfo_parts.specs.Parts.{numberIn, parameterAt, valueAt}
-use Rattle.nfo_parts.specs.Replies.{digitsOf, bodyOf, replyOf}
+use Rattle.nfo_parts.specs.Replies.{Spells, replyWith}
 use Rattle.nfo.proofs.Shape.{whole-length, whole-at}
-use Rattle.nfo_parts.proofs.Written.{reply-length}
+use Rattle.nfo_parts.proofs.Spelt.{four}
 use Rattle.nfo.proofs.Formed.{reply-formed}
 use Rattle.master_nfo.specs.Replies.{reply, checked, replied}
-use Rattle.master_nfo.proofs.Words.{never, places, placed, word-spelt, value-digits}
+use Rattle.master_nfo.proofs.Words.{never, places, placed, charactersAt, value-spelt}
 
--- ---- what was written
-module _ (adr e w : ℕ) where
-  pub reply-adr : getD (replyOf adr e w) 0 0 ≡ adr
-  unfolding replyOf
-  reply-adr = refl
+-- ---- characters that spell a number and a value
+module _ (adr e w : ℕ) (number value : List ℕ) (p : Spells number e) (v : Spells value w) where
+  pub reply-length : length (replyWith adr number value) ≡ 14
+  reply-length = let f = four number e p in let g = four value w v in rw (f .are, g .are)
 
-  pub reply-parameter : e < 65536 → parameterAt 2 (replyOf adr e w) ≡ Number (record { 0 = e })
-  unfolding parameterAt valueAt replyOf bodyOf digitsOf hexOf
-  reply-parameter h = ap numberIn (word-spelt e h)
+  pub reply-parameter : e < 65536 → parameterAt 2 (replyWith adr number value) ≡ Number (record { 0 = e })
+  unfolding parameterAt valueAt
+  reply-parameter h = let f = four number e p in rw (f .are) (ap numberIn (f .value h))
 
-  pub reply-value : w < 65536 → valueAt 8 (replyOf adr e w) ≡ Word w
-  unfolding valueAt replyOf bodyOf digitsOf hexOf
-  reply-value h = word-spelt w h
+  pub reply-value : w < 65536 → valueAt 8 (replyWith adr number value) ≡ Word w
+  unfolding valueAt
+  reply-value h = let f = four number e p in let g = four value w v in rw (f .are, g .are) (g .value h)
 
 -- the places of one
-module _ (s : List ℕ) (e w : ℕ) (l : length s ≡ 14) (two : getD s 1 0 ≡ 0x02) (letter : getD s 2 0 ≡ 0x45) (equals : getD s 7 0 ≡ 0x3D) (three : getD s 12 0 ≡ 0x03) where
-  pub reply-placed : getD s 13 0 ≡ bccOf (take 11 (drop 2 s)) → valueAt 3 s ≡ Word e → valueAt 8 s ≡ Word w → s ≡ replyOf (getD s 0 0) e w
-  unfolding replyOf bodyOf digitsOf hexOf
-  reply-placed right p v =
+module _ (s : List ℕ) (l : length s ≡ 14) (two : getD s 1 0 ≡ 0x02) (letter : getD s 2 0 ≡ 0x45) (equals : getD s 7 0 ≡ 0x3D) (three : getD s 12 0 ≡ 0x03) where
+  pub reply-placed : getD s 13 0 ≡ bccOf (take 11 (drop 2 s)) → s ≡ replyWith (getD s 0 0) (charactersAt 3 s) (charactersAt 8 s)
+  reply-placed right =
       let list : s ≡ places 14 (λ (i : ℕ). getD s i 0) = placed s 14 l in
-      let digits = value-digits s 3 e p .1 in
-      let values = value-digits s 8 w v .1 in
       let check : getD s 13 0 ≡ bccOf (take 11 (drop 2 (places 14 (λ (i : ℕ). getD s i 0)))) = right ∙ ap (λ (t : List ℕ). bccOf (take 11 (drop 2 t))) list in
       list ∙ cc
 
@@ -61,10 +56,11 @@ replied-select s l =
     let other : whole enquiry (0x04 ∷ s) ≡ false = is-false (whole enquiry (0x04 ∷ s)) (λ h. enquiry-apart s l h) in
     simp other
 
-pub reply-replied : (adr e w : ℕ) → fits ADR adr ≡ true → replied (replyOf adr e w) ≡ true
-reply-replied adr e w a = sym (replied-select (replyOf adr e w) (reply-length adr e w)) ∙ reply-formed adr e w a
+pub reply-replied : (adr e w : ℕ) (number value : List ℕ) → Spells number e → Spells value w → fits ADR adr ≡ true → replied (replyWith adr number value) ≡ true
+reply-replied adr e w number value p v a =
+    sym (replied-select (replyWith adr number value) (reply-length adr e w number value p v)) ∙ reply-formed adr e w number value p v a
 
--- ---- what has shape, check and hex was written so
+-- ---- what has shape, check and hex is such a text
 -- a parameter that is a number is `E` and its digits
 pub parameter-out : (s : List ℕ) (i : ℕ) (e : ENumber) → parameterAt i s ≡ Number e → (getD s i 0 ≡ 0x45) × (valueAt (i + 1) s ≡ Word (e .0))
 unfolding parameterAt
@@ -77,9 +73,9 @@ parameter-out s i e = go (eqb (getD s i 0) 0x45) (valueAt (i + 1) s) refl refl
 
 pub record Written (s : List ℕ) (e w : ℕ) : Type 0 where
   pub adr : fits ADR (getD s 0 0) ≡ true
-  pub number : e < 65536
-  pub value : w < 65536
-  pub same : s ≡ replyOf (getD s 0 0) e w
+  pub number : (e < 65536) × Spells (charactersAt 3 s) e
+  pub value : (w < 65536) × Spells (charactersAt 8 s) w
+  pub same : s ≡ replyWith (getD s 0 0) (charactersAt 3 s) (charactersAt 8 s)
 
 pub replied-written : (s : List ℕ) (e : ENumber) (w : ℕ) → replied s ≡ true → parameterAt 2 s ≡ Number e → valueAt 8 s ≡ Word w → Written s (e .0) w
 unfolding replied checked reply
@@ -89,8 +85,8 @@ replied-written s e w h p v =
     let at : (i : ℕ) → fits (getD reply i any) (getD s i 0) ≡ true = λ i. whole-at reply s i (r .0) in
     record {
       adr = at 0;
-      number = value-digits s 3 (e .0) (q .1) .0;
-      value = value-digits s 8 w v .0;
-      same = reply-placed s (e .0) w (whole-length reply s (r .0)) (eqb-true (getD s 1 0) 0x02 (at 1)) (q .0) (eqb-true (getD s 7 0) 0x3D (at 7)) (eqb-true (getD s 12 0) 0x03 (at 12))
-          (eqb-true (getD s 13 0) (bccOf (take 11 (drop 2 s))) (r .1)) (q .1) v;
+      number = value-spelt s 3 (e .0) (q .1);
+      value = value-spelt s 8 w v;
+      same = reply-placed s (whole-length reply s (r .0)) (eqb-true (getD s 1 0) 0x02 (at 1)) (q .0) (eqb-true (getD s 7 0) 0x3D (at 7)) (eqb-true (getD s 12 0) 0x03 (at 12))
+          (eqb-true (getD s 13 0) (bccOf (take 11 (drop 2 s))) (r .1));
     }

@@ -9,7 +9,6 @@ use lib.Dec.{eqb}
 use lib.ListN.{length, getD, take, drop}
 use Rattle.base.specs.Choice.{both}
 use Rattle.base.proofs.Tests.{both-out, both-in, both-false, not-both}
-use Rattle.hex.specs.Hex.{hexOf}
 use Rattle.checks.specs.Bcc.{bccOf}
 use Rattle.table.specs.declared.labels.ENumber.{ENumber}
 use Rattle.nfo.specs.Shape.{Kind, fits, whole}
@@ -18,16 +17,17 @@ use Rattle.nfo_parts.specs.declared.message.Parameter.the-variants.{Number}
 use Rattle.nfo_parts.specs.declared.message.Value.{Value}
 use Rattle.nfo_parts.specs.declared.message.Value.the-variants.{Word, NotHex}
 use Rattle.nfo_parts.specs.Parts.{parameterAt, valueAt}
-use Rattle.nfo_parts.specs.Replies.{digitsOf, bodyOf, replyOf}
+use Rattle.nfo_parts.specs.Replies.{Spells, bodyWith, replyWith}
+use Rattle.nfo_parts.proofs.Spelt.{four}
 use Rattle.nfo.proofs.Shape.{whole-length}
 use Rattle.nfo.proofs.Address.{adr-only}
 use Rattle.master_nfo.specs.declared.replies.Reply.{Reply}
 use Rattle.master_nfo.specs.declared.replies.Reply.the-variants.{Told, Acknowledged, Refused, NotAReply}
 use Rattle.master_nfo.specs.Replies.{reply, ack, nak, checked, replied, readOf}
 use Rattle.master_nfo.specs.Frame.{marked, framed}
-use Rattle.master_nfo.proofs.Words.{never, placed, value-digits}
+use Rattle.master_nfo.proofs.Words.{never, placed, charactersAt, value-spelt}
 use Rattle.master_nfo.proofs.Bytes.{reply-placed, parameter-out, replied-written}
-use Rattle.master_nfo.proofs.Answered.{read-cases, reply-read}
+use Rattle.master_nfo.proofs.Answered.{read-cases, spelt-read}
 
 -- an ADR is 32 at least
 module _ (t : Bool) (x : ℕ) (q : t ≡ fits ADR x) where
@@ -91,9 +91,13 @@ unfolding checked
 checked-by s b e = rw e
 
 -- a REPLY has it
-pub reply-framed : (a e w : ℕ) → fits ADR a ≡ true → framed (replyOf a e w) ≡ true
-unfolding framed marked checked replyOf bodyOf digitsOf hexOf
-reply-framed a e w h = both-in h (eq-eqb (bccOf (bodyOf e w)) (bccOf (bodyOf e w)) refl)
+pub reply-framed : (a e w : ℕ) (number value : List ℕ) → Spells number e → Spells value w → fits ADR a ≡ true → framed (replyWith a number value) ≡ true
+unfolding framed marked checked
+reply-framed a e w number value p v h =
+    let f = four number e p in
+    let g = four value w v in
+    let body : List ℕ = bodyWith (f .a ∷ f .b ∷ f .c ∷ f .d ∷ []) (g .a ∷ g .b ∷ g .c ∷ g .d ∷ []) in
+    rw (f .are, g .are) (both-in h (eq-eqb (bccOf body) (bccOf body) refl))
 
 module _ (s : List ℕ) (l : length s ≡ 14) where
   long-none : ((e : ENumber) (w : ℕ) → replied s ≡ true → parameterAt 2 s ≡ Number e → valueAt 8 s ≡ Word w → ⊥) → NotAReply ≡ readOf s
@@ -105,7 +109,10 @@ module _ (s : List ℕ) (l : length s ≡ 14) where
 
   pub other-frame : (t : Bool) → t ≡ framed s → t ≡ false → NotAReply ≡ readOf s
   other-frame t q f =
-      long-none (λ e w h p v. let r = replied-written s e w h p v in not-both (ap framed (r .same) ∙ reply-framed (getD s 0 0) (e .0) w (r .adr)) (sym q ∙ f))
+      long-none
+      (λ e w h p v.
+      let r = replied-written s e w h p v in
+      not-both (ap framed (r .same) ∙ reply-framed (getD s 0 0) (e .0) w (charactersAt 3 s) (charactersAt 8 s) (r .number .1) (r .value .1) (r .adr)) (sym q ∙ f))
 
   pub other-number : (x : Value) → x ≡ valueAt 3 s → x ≡ NotHex → NotAReply ≡ readOf s
   other-number x q f = long-none (λ e w h p v. let d = parameter-out s 2 e p .1 in never (cc))
@@ -132,7 +139,9 @@ module _ (s : List ℕ) (l : length s ≡ 14) where
         let two = both-out (eqb (getD s 1 0) 0x02) _ (r .0) in
         let letter = both-out (eqb (getD s 2 0) 0x45) _ (two .1) in
         let three = both-out (eqb (getD s 7 0) 0x3D) _ (letter .1) in
-        let same : s ≡ replyOf (getD s 0 0) e w =
-        reply-placed s e w l (eqb-true (getD s 1 0) 0x02 (two .0)) (eqb-true (getD s 2 0) 0x45 (letter .0)) (eqb-true (getD s 7 0) 0x3D (three .0)) (eqb-true (getD s 12 0) 0x03 (three .1))
-        (eqb-true (getD s 13 0) (bccOf (take 11 (drop 2 s))) (r .1)) p v in
-        sym (ap readOf same ∙ reply-read (getD s 0 0) e w (frame .0) (value-digits s 3 e p .0) (value-digits s 8 w v .0))
+        let same : s ≡ replyWith (getD s 0 0) (charactersAt 3 s) (charactersAt 8 s) =
+        reply-placed s l (eqb-true (getD s 1 0) 0x02 (two .0)) (eqb-true (getD s 2 0) 0x45 (letter .0)) (eqb-true (getD s 7 0) 0x3D (three .0)) (eqb-true (getD s 12 0) 0x03 (three .1))
+        (eqb-true (getD s 13 0) (bccOf (take 11 (drop 2 s))) (r .1)) in
+        let n = value-spelt s 3 e p in
+        let m = value-spelt s 8 w v in
+        sym (ap readOf same ∙ spelt-read (getD s 0 0) e w (charactersAt 3 s) (charactersAt 8 s) (n .1) (m .1) (frame .0) (n .0) (m .0))

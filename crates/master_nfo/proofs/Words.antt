@@ -1,16 +1,16 @@
--- Lists by their places; and four hex digits and the word that they spell, the one from the other. Assumes nothing.
-use mathlib.Core.Path.{_≡_, refl, ap, ap₂, _∙_}
+-- Lists by their places; and four characters that are read as a word spell it. Assumes nothing.
+use mathlib.Core.Path.{_≡_, refl, ap, _∙_}
 use mathlib.Core.List.{List, [], _∷_}
 use Prim.Native.Nat.{ℕ, zero, suc, _+_, _*_, _/_, _%_, _<_}
 use native.Mathlib.Omega.{arith}
 use lib.ListN.{length, getD}
 use Rattle.hex.specs.declared.Pair.{Pair}
 use Rattle.hex.specs.declared.Pair.the-variants.{Byte, NoByte}
-use Rattle.hex.specs.Hex.{pairValue, hexOf, digitOf}
-use Rattle.hex.proofs.RoundTrip.{pair-digits, digits-pair, pair-below}
+use Rattle.hex.specs.Hex.{capitals, pairValue, hexOf}
+use Rattle.hex.proofs.RoundTrip.{digits-pair, pair-below}
 use Rattle.nfo_parts.specs.declared.message.Value.the-variants.{Word}
 use Rattle.nfo_parts.specs.Parts.{wordIn, valueAt}
-use Rattle.nfo_parts.specs.Replies.{digitsOf}
+use Rattle.nfo_parts.specs.Replies.{digitsOf, Spells}
 
 -- what follows where two constructors would be equal, of which `cc` makes 0 ≡ 1
 pub never : {A : Type 0} → _≡_ {A = ℕ} 0 1 → A
@@ -29,17 +29,16 @@ pub placed : (s : List ℕ) (n : ℕ) → length s ≡ n → s ≡ places n (λ 
 placed s n l = by-places s ∙ ap (λ (k : ℕ). places k (λ (i : ℕ). getD s i 0)) l
 
 -- ---- words
--- the digits of a word spell it
-pub word-spelt : (w : ℕ) → w < 65536 → wordIn (pairValue (digitOf (w / 256 / 16)) (digitOf (w / 256 % 16))) (pairValue (digitOf (w % 256 / 16)) (digitOf (w % 256 % 16))) ≡ Word w
-word-spelt w h = ap₂ wordIn (pair-digits (w / 256) (omega arith)) (pair-digits (w % 256) (omega arith)) ∙ ap Word (omega arith)
+-- the four characters from a place on
+abbrev pub charactersAt : ℕ → List ℕ → List ℕ
+charactersAt i s = getD s i 0 ∷ getD s (i + 1) 0 ∷ getD s (i + 2) 0 ∷ getD s (i + 3) 0 ∷ []
 
--- and what spells it are its digits
-pub value-digits : (s : List ℕ) (i w : ℕ) → valueAt i s ≡ Word w → (w < 65536) × (getD s i 0 ∷ getD s (i + 1) 0 ∷ getD s (i + 2) 0 ∷ getD s (i + 3) 0 ∷ [] ≡ digitsOf w)
-unfolding valueAt digitsOf hexOf
-value-digits s i w = go (pairValue (getD s i 0) (getD s (i + 1) 0)) (pairValue (getD s (i + 2) 0) (getD s (i + 3) 0)) refl refl
+pub value-spelt : (s : List ℕ) (i w : ℕ) → valueAt i s ≡ Word w → (w < 65536) × Spells (charactersAt i s) w
+unfolding valueAt digitsOf hexOf capitals
+value-spelt s i w = go (pairValue (getD s i 0) (getD s (i + 1) 0)) (pairValue (getD s (i + 2) 0) (getD s (i + 3) 0)) refl refl
   where
     go : (x y : Pair) → pairValue (getD s i 0) (getD s (i + 1) 0) ≡ x → pairValue (getD s (i + 2) 0) (getD s (i + 3) 0) ≡ y → wordIn x y ≡ Word w
-        → (w < 65536) × (getD s i 0 ∷ getD s (i + 1) 0 ∷ getD s (i + 2) 0 ∷ getD s (i + 3) 0 ∷ [] ≡ digitsOf w)
+        → (w < 65536) × Spells (charactersAt i s) w
     go (Byte h) (Byte l) p q e =
         let k : 256 * h + l ≡ w = cc in
         let a = pair-below (getD s i 0) (getD s (i + 1) 0) h p in

@@ -18,6 +18,10 @@ requests =
 abbrev pub accel-told : List ℕ → List ℕ
 accel-told rest = 0x21 ∷ 0x02 ∷ 0x45 ∷ 0x30 ∷ 0x30 ∷ 0x31 ∷ 0x44 ∷ 0x3D ∷ 0x30 ∷ 0x30 ∷ rest
 
+-- case 2's REPLY with the number `001d`, a prefix and a BCC
+abbrev pub small-told : ℕ → ℕ → List ℕ
+small-told prefix bcc = 0x21 ∷ 0x02 ∷ prefix ∷ 0x30 ∷ 0x30 ∷ 0x31 ∷ 0x64 ∷ 0x3D ∷ 0x30 ∷ 0x30 ∷ 0x33 ∷ 0x32 ∷ 0x03 ∷ bcc ∷ []
+
 abbrev pub replies : List (List ℕ × Reply)
 replies =
     -- case 2, and case 9: its BCC is 04
@@ -27,9 +31,15 @@ replies =
     ∷ (0x21 ∷ 0x15 ∷ [], Refused 1)
     ∷ (0x21 ∷ 0x06 ∷ [], Acknowledged 1)
     ∷ (0x7F ∷ 0x06 ∷ [], Acknowledged 95)
-    -- a wrong BCC, a small letter with its right BCC, a byte too many and one too few, and a request
+    -- "in replies the master side reads": small letters, with the BCC over those
+    ∷ (accel-told (0x33 ∷ 0x61 ∷ 0x03 ∷ 0x5C ∷ []), Told 1 (record { 0 = 0x001D }) 0x003A)
+    ∷ (small-told 0x45 0x2F, Told 1 (record { 0 = 0x001D }) 50)
+    -- with the BCC over the capitals, and with the prefix `e`
+    ∷ (small-told 0x45 0x0F, NotAReply)
+    ∷ (small-told 0x65 0x0F, NotAReply)
+    -- a wrong BCC, `g` with its right BCC, a byte too many and one too few, and a request
     ∷ (accel-told (0x33 ∷ 0x32 ∷ 0x03 ∷ 0x0E ∷ []), NotAReply)
-    ∷ (accel-told (0x33 ∷ 0x61 ∷ 0x03 ∷ 0x5C ∷ []), NotAReply)
+    ∷ (accel-told (0x33 ∷ 0x67 ∷ 0x03 ∷ 0x5A ∷ []), NotAReply)
     ∷ (accel-told (0x33 ∷ 0x32 ∷ 0x03 ∷ 0x0F ∷ 0x00 ∷ []), NotAReply)
     ∷ (0x21 ∷ [], NotAReply)
     ∷ (ask, NotAReply)

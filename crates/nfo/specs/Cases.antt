@@ -53,6 +53,10 @@ streams =
 abbrev pub E : ℕ → Parameter
 E n = Number (record { 0 = n })
 
+-- ENQUIRY of a parameter
+abbrev pub enquire : List ℕ → List ℕ
+enquire parameter = 0x04 ∷ 0x21 ∷ parameter ++ (0x05 ∷ [])
+
 abbrev pub messages : List (List ℕ × Message)
 messages =
     -- case 1: "S2's own SELECT"
@@ -63,7 +67,12 @@ messages =
     ∷ (accel-0093, Select 0x21 (E 0x001D) (Word 0x0093))
     -- case 4: "R-fix1 B1E0h"
     ∷ (0x04 ∷ 0x21 ∷ 0x02 ∷ 0x45 ∷ 0x30 ∷ 0x30 ∷ 0x33 ∷ 0x39 ∷ 0x3D ∷ 0x42 ∷ 0x31 ∷ 0x45 ∷ 0x30 ∷ 0x03 ∷ 0x77 ∷ [], Select 0x21 (E 0x0039) (Word 0xB1E0))
-    -- "an unknown parameter or non-hex value is still well-formed": `F001D`, and `00a9`
-    ∷ (0x04 ∷ 0x21 ∷ 0x46 ∷ 0x30 ∷ 0x30 ∷ 0x31 ∷ 0x44 ∷ 0x05 ∷ [], Enquiry 0x21 NoNumber)
-    ∷ (accel (0x61 ∷ 0x39 ∷ 0x03 ∷ 0x56 ∷ []), Select 0x21 (E 0x001D) NotHex)
+    -- "Take a-f as well": case 2 as `E001d`, and Accel `00a9`
+    ∷ (enquire (0x45 ∷ 0x30 ∷ 0x30 ∷ 0x31 ∷ 0x64 ∷ []), Enquiry 0x21 (E 0x001D))
+    ∷ (accel (0x61 ∷ 0x39 ∷ 0x03 ∷ 0x56 ∷ []), Select 0x21 (E 0x001D) (Word 0x00A9))
+    -- "an unknown parameter or non-hex value is still well-formed": `F001D`, `E001g`, and Accel `00@9`; "The prefix E stays a capital": `e00a9`
+    ∷ (enquire (0x46 ∷ 0x30 ∷ 0x30 ∷ 0x31 ∷ 0x44 ∷ []), Enquiry 0x21 NoNumber)
+    ∷ (enquire (0x45 ∷ 0x30 ∷ 0x30 ∷ 0x31 ∷ 0x67 ∷ []), Enquiry 0x21 NoNumber)
+    ∷ (accel (0x40 ∷ 0x39 ∷ 0x03 ∷ 0x77 ∷ []), Select 0x21 (E 0x001D) NotHex)
+    ∷ (enquire (0x65 ∷ 0x30 ∷ 0x30 ∷ 0x61 ∷ 0x39 ∷ []), Enquiry 0x21 NoNumber)
     ∷ []

@@ -1,3 +1,4 @@
 pub mod Cases
 pub mod Parsed
 pub mod Written
+pub mod Spelt

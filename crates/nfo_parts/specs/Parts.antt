@@ -23,7 +23,7 @@ wordIn NoByte low = NotHex
 unfoldable pub valueAt : ℕ → List ℕ → Value
 valueAt i m = wordIn (pairValue (getD m i 0) (getD m (i + 1) 0)) (pairValue (getD m (i + 2) 0) (getD m (i + 3) 0))
 
--- "A parameter is `E` and four hex digits."
+-- "A parameter is `E` and four hex digits." "The prefix E stays a capital."
 abbrev pub numberIn : Value → Parameter
 numberIn (Word e) = Number (record { 0 = e })
 numberIn NotHex = NoNumber

@@ -3,7 +3,7 @@
 use Prim.Native.Nat.{_+_, _-_}
 use borrow.Author.Needs.{needs}
 use lib.ListN.{length}
-use Rattle.ascii_scan.proofs.Running.{Running, run-starts, run-joined, none-open, capital-open, capital-again}
+use Rattle.ascii_scan.proofs.Running.{Running, run-starts, run-joined, none-open, letter-open, letter-again}
 use Rattle.ascii_scan.proofs.digits.push_run.Statement.{statement}
 use Rattle.ascii_scan.proofs.digits.push_run.Tie as tie
 
@@ -20,7 +20,7 @@ returns : tie.Need-returns Inv-loop μ-loop
 returns c = (search needs, (search needs, run-joined _ _ _ _ _ _ _ (c .before .before .before .before .loop .inv) (c .before .before .before .before .before .push-numerals .ensures .1 .1 .1)))
 
 loop-again : tie.Need-loop-again Inv-loop μ-loop
-loop-again c = search capital-again
+loop-again c = search letter-again
 
 returns-2 : tie.Need-returns-2 Inv-loop μ-loop
 returns-2 c = (search needs, (search needs, run-joined _ _ _ _ _ _ _ (c .before .loop .inv) (c .before .before .push-numerals .ensures .1 .1 .1)))
@@ -40,7 +40,7 @@ push-run-spec =
     (λ c. search needs)
     (λ c. search needs)
     (λ c. search needs)
-    (λ c κs. (search needs, (search needs, (search needs, search capital-open))))
+    (λ c κs. (search needs, (search needs, (search needs, search letter-open))))
     (λ c. search needs)
     loop-again
     returns-2)

@@ -1,62 +1,52 @@
 -- `bench_words::spelt` meets its contract: at each `return` the tests that led there say what the word spells. Assumes nothing.
-use Rattle.bench_words.proofs.Hexes.{spelt-dash, spelt-none, spelt-many, spelt-spoilt, spelt-bytes}
+use Rattle.bench_words.proofs.Hexes.{spelt-dash, spelt-small, spelt-none, spelt-many, spelt-spoilt, spelt-bytes}
 use borrow.Author.Needs.{needs}
 use Rattle.bench_words.proofs.spelling.spelt.Statement.{statement}
 use Rattle.bench_words.proofs.spelling.spelt.Tie as tie
 
-slice-aggregate-same : tie.Need-slice-aggregate-same
-slice-aggregate-same c = search needs
-
-same-requires : tie.Need-same-requires
-same-requires c κs = search needs
-
 returns : tie.Need-returns
 returns c = spelt-dash _ _ _ (c .before .same .ensures) (c .if1 .taken)
 
-decode-requires : tie.Need-decode-requires
-decode-requires c κs = search needs
-
-same-length : tie.Need-same-length
-same-length c = search needs
-
 returns-2 : tie.Need-returns-2
-returns-2 c = spelt-none _ _ _ _ (c .before .before .before .before .before .before .same .ensures) (c .before .before .before .before .before .if1 .left) _ (c .before .before .before .decode .ensures) (c .if2 .taken)
+returns-2 c = spelt-small _ _ _ (c .before .before .before .same .ensures) (c .before .before .if1 .left) _ (c .before .in-capitals .ensures) (c .if2 .taken)
 
-same-length-2 : tie.Need-same-length-2
-same-length-2 c = search needs
-
+-- from here on the word was decoded, at d
 returns-3 : tie.Need-returns-3
-returns-3 c = spelt-many _ _ _ _ (c .before .before .before .before .before .before .before .same .ensures) (c .before .before .before .before .before .before .if1 .left) _ (c .before .before .before .before .decode .ensures) (c .before .if2 .left) (c .if3 .taken)
-
-mul-if4 : tie.Need-mul-if4
-mul-if4 c = search needs
-
-same-length-3 : tie.Need-same-length-3
-same-length-3 c = search needs
+returns-3 c =
+    let d = c .before .before .before in
+    spelt-none _ _ _ _ (d .before .before .before .before .before .same .ensures) (d .before .before .before .before .if1 .left) _ (d .before .before .before .in-capitals .ensures) (d .before .before .if2 .left) _ (d .decode .ensures) (c .if3 .taken)
 
 returns-4 : tie.Need-returns-4
-returns-4 c = spelt-spoilt _ _ _ _ (c .before .before .before .before .before .before .before .before .same .ensures) (c .before .before .before .before .before .before .before .if1 .left) _ (c .before .before .before .before .before .decode .ensures) (c .before .before .if2 .left) (c .before .if3 .left) (c .if4 .taken)
-
-same-length-4 : tie.Need-same-length-4
-same-length-4 c = search needs
+returns-4 c =
+    let d = c .before .before .before .before in
+    spelt-many _ _ _ _ (d .before .before .before .before .before .same .ensures) (d .before .before .before .before .if1 .left) _ (d .before .before .before .in-capitals .ensures) (d .before .before .if2 .left) _ (d .decode .ensures) (c .before .if3 .left) (c .if4 .taken)
 
 returns-5 : tie.Need-returns-5
-returns-5 c = spelt-bytes _ _ _ _ (c .before .before .before .before .before .before .before .before .same .ensures) (c .before .before .before .before .before .before .before .if1 .left) _ (c .before .before .before .before .before .decode .ensures) (c .before .before .if2 .left) (c .before .if3 .left) (c .if4 .left)
+returns-5 c =
+    let d = c .before .before .before .before .before in
+    spelt-spoilt _ _ _ _ (d .before .before .before .before .before .same .ensures) (d .before .before .before .before .if1 .left) _ (d .before .before .before .in-capitals .ensures) (d .before .before .if2 .left) _ (d .decode .ensures) (c .before .before .if3 .left) (c .before .if4 .left) (c .if5 .taken)
+
+returns-6 : tie.Need-returns-6
+returns-6 c =
+    let d = c .before .before .before .before .before in
+    spelt-bytes _ _ _ _ (d .before .before .before .before .before .same .ensures) (d .before .before .before .before .if1 .left) _ (d .before .before .before .in-capitals .ensures) (d .before .before .if2 .left) _ (d .decode .ensures) (c .before .before .if3 .left) (c .before .if4 .left) (c .if5 .left)
 
 pub spelt-spec : {M : Type 1} → statement M
 spelt-spec =
     tie.close
     (tie.spec
-    slice-aggregate-same
-    same-requires
+    (λ c. search needs)
+    (λ c κs. search needs)
     returns
-    decode-requires
-    same-length
+    (λ c κs. search needs)
     returns-2
-    same-length-2
+    (λ c κs. search needs)
+    (λ c. search needs)
     returns-3
-    mul-if4
-    same-length-3
+    (λ c. search needs)
     returns-4
-    same-length-4
-    returns-5)
+    (λ c. search needs)
+    (λ c. search needs)
+    returns-5
+    (λ c. search needs)
+    returns-6)
