@@ -104,13 +104,13 @@ void card_register_data(const uint8_t *frame, size_t n_frame, size_t place[2]);
 #endif
 
 /* ---- what a host calls */
-/* A fresh card. Whatever the memory held before will do. */
+/* A fresh card, with the table's start words: SioTot is 50, 5 seconds. Whatever the memory held before will do. */
 static inline void card_start(card *c, uint32_t protocol)
 {
     card_start_in(c->port.pending.bytes, &c->port.pending.len, c->port.numbers, c->plant, protocol);
 }
 
-/* Restart: the settings, DIN1, causes and measured numbers stay; nothing is pending; MbAdr counts from now on. */
+/* Restart: the settings, SioTot among them, DIN1, causes and measured numbers stay; nothing is pending; MbAdr counts from now on. */
 static inline void card_restart(card *c) { card_restart_in(&c->port.pending.len, c->port.numbers, c->plant); }
 
 /* Fault n is raised, or its cause has ended: 0, or 12 where n is none of 1 to 13 and 16 to 23. */
@@ -128,7 +128,8 @@ static inline uint32_t card_op_time(card *c, uint32_t word) { return card_op_tim
 /* The port tells a parity fault: 0. */
 static inline uint32_t card_parity_fault(card *c) { return card_parity_fault_in(c->port.numbers, c->plant); }
 
-/* So many tenths of a second pass: 0, or 12 outside 1 to 250. */
+/* So many tenths of a second pass: 0, or 12 outside 1 to 250. Where those since the last message of ours come to more than SioTot, a time-out happens: bit 0 of SioErr,
+ * and at MODE 3 SCMD is 0 and flag 14 stands. SioTot 0 is no time-out. */
 static inline uint32_t card_tick(card *c, uint32_t tenths) { return card_tick_in(c->port.numbers, c->plant, tenths); }
 
 /* Bytes from the line: a scrap of the stream, or for RTU one frame. Serves the first message taken and puts its reply at the start of `reply`, whose

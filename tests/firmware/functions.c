@@ -79,7 +79,7 @@ static card driving(void)
 /* The column Start; "At start DIN1 is inactive and no cause stands". */
 static void start(void)
 {
-    static const uint32_t column[] = { 150, 400, 50, 1500, 80, 100, 1000, 50, 50, 0, 0, 500, 0, 1, 128, 0, 1, 0, 1, 1, 1, 0 };
+    static const uint32_t column[] = { 150, 400, 50, 1500, 80, 100, 1000, 50, 50, 0, 0, 500, 0, 1, 128, 0, 1, 50, 1, 1, 1, 0 };
     static const uint32_t protocols[][2] = { { CARD_NFO, CARD_NFO }, { CARD_RTU, CARD_RTU }, { CARD_ASCII, CARD_ASCII }, { 7, CARD_NFO } };
 
     part = "start";
@@ -232,6 +232,22 @@ static void ticks(card *c, card *d, uint32_t tenths, uint32_t outcome, const car
     same_card(d, right);
 }
 
+/* A card at MODE 3, so many tenths before its sum is SioTot: up to there it counts, and one more is a time-out. */
+static void last_tenths(card c, uint32_t tenths)
+{
+    card d = c, right = c;
+
+    part = "tick up to SioTot";
+    right.port.numbers[CARD_SUM] = c.plant[CARD_SIO_TOT];
+    ticks(&c, &d, tenths, CARD_DONE, &right);
+    part = "tick above SioTot at MODE 3";
+    right.port.numbers[CARD_SUM] = 0;
+    right.port.numbers[CARD_SIOERR] = 1;
+    right.plant[CARD_FLAGS] = 1u << 14;
+    right.plant[CARD_SCMD] = 0;
+    ticks(&c, &d, 1, CARD_DONE, &right);
+}
+
 /* "The host ticks 1 to 250 tenths. If SioTot is not 0 and the sum .. goes above it, a time-out happens and the sum restarts at 0. While SioTot is 0 the
  * sum is 0." */
 static void tick(void)
@@ -242,17 +258,8 @@ static void tick(void)
     ticks(&c, &d, 0, CARD_NO_SUCH_EVENT, &right);
     ticks(&c, &d, 251, CARD_NO_SUCH_EVENT, &right);
     ticks(&c, &d, UINT32_MAX, CARD_NO_SUCH_EVENT, &right);
-    part = "tick up to SioTot";
-    right.port.numbers[CARD_SUM] = 10;
-    ticks(&c, &d, 6, CARD_DONE, &right);
-    part = "tick above SioTot at MODE 3";
-    right.port.numbers[CARD_SUM] = 0;
-    right.port.numbers[CARD_SIOERR] = 1;
-    right.plant[CARD_FLAGS] = 1u << 14;
-    right.plant[CARD_SCMD] = 0;
-    ticks(&c, &d, 1, CARD_DONE, &right);
+    last_tenths(c, 6);
     part = "tick above SioTot at MODE 1";
-    c = driving();
     c.plant[CARD_MODE] = 1;
     right = d = c;
     right.port.numbers[CARD_SUM] = 0;
@@ -264,6 +271,17 @@ static void tick(void)
     right = d = c;
     right.port.numbers[CARD_SUM] = 0;
     ticks(&c, &d, 250, CARD_DONE, &right);
+}
+
+/* "The start number becomes 50 (5 seconds)": a fresh card that runs at MODE 3 stops by itself once it was silent for longer, and not before. */
+static void silence(void)
+{
+    card c = fresh(CARD_NFO);
+
+    c.plant[CARD_MODE] = 3;
+    c.plant[CARD_SCMD] = 129;
+    c.plant[CARD_DIN1] = 1;
+    last_tenths(c, 50);
 }
 
 /* ---- bytes from the line */
@@ -414,6 +432,7 @@ int main(void)
     measured();
     parity_fault();
     tick();
+    silence();
     bytes_from_the_line();
     register_data();
     printf("functions: %lu numbers and bytes are as the documents say, %lu are not\n", held, wrong);

@@ -4,6 +4,7 @@ Usage: masters.py PROGRAM, where `PROGRAM line ..` runs the program. Exit status
 A master that this machine does not have is skipped, with the reason.
 """
 import os
+import platform
 import re
 import shutil
 import signal
@@ -11,6 +12,7 @@ import subprocess
 import sys
 import tempfile
 import time
+from concurrent.futures import ThreadPoolExecutor
 
 import steps
 from port import PATIENCE, Port
@@ -21,6 +23,8 @@ FRAMED = {"rtu": steps.rtu, "ascii": steps.ascii}
 SETTINGS = {"rtu": ["raw", "-echo", "min", "255", "time", "1"], "ascii": ["raw", "-echo"], "nfo": ["raw", "-echo"]}
 # how long nothing comes where nothing is to come; on RTU it is the silence around a frame, too
 SILENCE = 1.0
+# longer than SioTot is from the start, 5 seconds
+LEFT_ALONE = 6
 
 
 class Mbpoll:
@@ -137,18 +141,27 @@ def play(program, protocol, name, master_on, letters=bytes):
                 if step.line:
                     expected.append(step.line)
                 continue
-            right = framed(b"\1" + step.reply())
-            expected.append("%d %s" % (step.outcome, right.hex().upper()))
+            expected.append(line_of(framed, step))
             if master.can_ask(step):
-                told = master.ask(step)
-                assert told == step.answer(), "%s, %s: heard %s, and not %s" % (name, step, told, step.answer())
+                ask(name, master, step)
                 asked += 1
             else:
+                right = framed(b"\1" + step.reply())
                 port.put(framed(b"\1" + step.request()))
                 assert port.reply(len(right)) == right, str(step)
         master.close()
         same_lines(name, port.lines(), expected)
     print("masters: %s: %d requests answered as the documents say, %d lines" % (name, asked, len(expected)))
+
+
+def line_of(framed, step):
+    """The line that `line` prints of a request to address 1."""
+    return "%d %s" % (step.outcome, framed(b"\1" + step.reply()).hex().upper())
+
+
+def ask(name, master, step):
+    told = master.ask(step)
+    assert told == step.answer(), "%s, %s: heard %s, and not %s" % (name, step, told, step.answer())
 
 
 def same_lines(name, printed, expected):
@@ -188,6 +201,25 @@ def pymodbus_ascii(program):
 
     for name, letters in LETTERS.items():
         play(program, "ascii", "pymodbus on ASCII in " + name, lambda device: Pymodbus(device, ModbusAsciiFramer, steps.ascii, letters), letters)
+
+
+def left_alone(program):
+    """Two masters that fall silent at MODE 3, at the same time: one on a fresh card, the other after it wrote SioTot 0."""
+    if not shutil.which("mbpoll"):
+        return "mbpoll is not on this machine and could not be installed"
+    framed = FRAMED["rtu"]
+    with Port(program, "rtu", SETTINGS["rtu"]) as fresh, Port(program, "rtu", SETTINGS["rtu"]) as off:
+        plays = [("a dead master", fresh, steps.left_alone()), ("a dead master, SioTot 0", off, steps.left_alone_with_0())]
+        for name, port, (before, _) in plays:
+            for step in before:
+                ask(name, Mbpoll(port.device), step)
+        time.sleep(LEFT_ALONE)
+        for name, port, (_, after) in plays:
+            for step in after:
+                ask(name, Mbpoll(port.device), step)
+        for name, port, (before, after) in plays:
+            same_lines(name, port.lines(), [line_of(framed, step) for step in before + after])
+    print("masters: a card at MODE 3, left alone for %d s, tells 14 and stands; with SioTot 0 it does not" % LEFT_ALONE)
 
 
 def two_scraps(program):
@@ -240,6 +272,9 @@ def nfo_exchanges():
     assert accel == enquiry("E001D") and bytes.fromhex("210245303031443D30303332030F") == reply("E001D", 50)
     wrong_bcc = select("E001D", 0x64)[:-1] + b"\x0D"
     return [
+        # however slow this master is, it is not taken for dead
+        (enquiry("E00AB"), reply("E00AB", 50), [0]),
+        (select("E00AB", 0), ACK, [0]),
         (accel, reply("E001D", 50), [0]),
         (bytes.fromhex("04210245303031393D303036340371"), NAK, [2]),  # case 1
         (select("E001D", 0x64), ACK, [0]),  # case 3
@@ -309,6 +344,95 @@ def nfo_serial(program):
     print("masters: NFO serial: %d exchanges answered as the documents say, %d lines" % (len(whole + by_bytes), len(expected)))
 
 
+STATUS = enquiry("E00E9")
+SIO_ERR = enquiry("E00AC")
+
+
+def nfo_left_alone(program):
+    """On NFO serial, with seconds of silence before each message: those for another house and half a message do not keep the card from its time-out, one of its own every 3 seconds does."""
+    exchanges = [
+        (0, select("E0029", 3), ACK, [0]),
+        (3, enquiry("E00E9", 2), b"", [1]),
+        (3, STATUS[:5], b"", []),
+        (0, STATUS[5:], reply("E00E9", 14), [0]),
+        (0, select("E001D", 0x64), NAK, [5]),
+        (0, enquiry("E00AD"), reply("E00AD", 0), [0]),
+        (0, select("E00AD", 0, 95), b"", [0]),  # the broadcast stop clears 14
+        (0, STATUS, reply("E00E9", 37), [0]),
+        (3, STATUS, reply("E00E9", 37), [0]),
+        (3, STATUS, reply("E00E9", 37), [0]),
+        (LEFT_ALONE, STATUS, reply("E00E9", 14), [0]),
+        (0, SIO_ERR, reply("E00AC", 1), [0]),
+        (0, STATUS, reply("E00E9", 37), [0]),
+    ]
+    with Port(program, "nfo", SETTINGS["nfo"]) as port:
+        timed(port, "NFO serial, left alone", exchanges, time.sleep)
+    print("masters: NFO serial: a card at MODE 3 tells 14 after %d s of silence, and not where it is asked every 3 s" % LEFT_ALONE)
+
+
+def timed(port, name, exchanges, wait):
+    """Exchanges of NFO serial, each after a time."""
+    expected = []
+    for when, data, right, outcomes in exchanges:
+        wait(when)
+        port.put(data)
+        check_reply(port, data, right)
+        expected += line_texts(right, outcomes)
+    same_lines(name, port.lines(), expected)
+
+
+def clock_of_our_own(program):
+    """By a clock that the test sets: to the tenth, over a year, back, and without any time."""
+    if platform.machine() != "x86_64" or not shutil.which("gcc"):
+        return "a clock of our own needs x86-64 and gcc"
+    with tempfile.TemporaryDirectory() as folder:
+        library, clock = os.path.join(folder, "clock.so"), os.path.join(folder, "clock")
+        source = os.path.join(os.path.dirname(os.path.abspath(__file__)), "clock.c")
+        subprocess.run(["gcc", "-shared", "-fPIC", "-Wall", "-Wextra", "-Werror", "-o", library, source], check=True)
+        env = dict(os.environ, LD_PRELOAD=library, CLOCK=clock)
+        no_time(program, folder, env)
+
+        def at(milliseconds):
+            with open(clock + ".new", "w") as new:
+                new.write("%d\n" % milliseconds)
+            os.rename(clock + ".new", clock)
+
+        at(1000)
+        year = 365 * 24 * 3600 * 1000
+        with Port(program, "nfo", SETTINGS["nfo"], env) as port:
+            timed(port, "a clock of our own", [
+                (1099, select("E0029", 3), ACK, [0]),
+                (6099, STATUS, reply("E00E9", 37), [0]),  # 5.0 s are never too long
+                (11199, STATUS, reply("E00E9", 14), [0]),  # 5.1 s always are
+                (11199, SIO_ERR, reply("E00AC", 1), [0]),
+                (12000, STATUS, reply("E00E9", 37), [0]),
+                (17099, STATUS, reply("E00E9", 37), [0]),  # between the two it is up to where the tenths are cut
+                (22100, STATUS, reply("E00E9", 14), [0]),
+                (22100, SIO_ERR, reply("E00AC", 1), [0]),
+                # what is left of a tenth at one read counts at the next: 25.9 and 25.9 are 51
+                (24690, STATUS[:1], b"", []),
+                (27280, STATUS[1:], reply("E00E9", 14), [0]),
+                (27280, SIO_ERR, reply("E00AC", 1), [0]),
+                (year, STATUS, reply("E00E9", 14), [0]),
+                (year, SIO_ERR, reply("E00AC", 1), [0]),
+                (0, STATUS, reply("E00E9", 37), [0]),  # it goes back: nothing has passed
+                (5000, STATUS, reply("E00E9", 37), [0]),
+                (10100, STATUS, reply("E00E9", 14), [0]),
+            ], at)
+    print("masters: by a clock of our own, 5.0 s of silence are never too long, and 5.1 s always are")
+
+
+def no_time(program, folder, env):
+    """A clock that tells no time is told, and the device is not opened."""
+    device = os.path.join(folder, "device")
+    with open(device, "wb") as held:
+        held.write(STATUS)
+    ran = subprocess.run([program, "line", "nfo", device], stdin=subprocess.DEVNULL, capture_output=True, text=True, timeout=PATIENCE, env=env)
+    assert (ran.returncode, ran.stdout, ran.stderr) == (0, "", "line: the clock tells no time\n"), str(ran)
+    with open(device, "rb") as held:
+        assert held.read() == STATUS, "the device was written to"
+
+
 def check_reply(port, data, right):
     told = port.reply(len(right))
     assert told == right, "NFO serial, %s: heard %s, and not %s" % (data.hex(), told.hex(), right.hex())
@@ -366,10 +490,19 @@ def main():
     if not shutil.which("socat"):
         print("masters: skipped: socat is not on this machine and could not be installed")
         return
-    for test in (nfo_serial, libmodbus_rtu, pymodbus_rtu, pymodbus_ascii, two_scraps):
-        reason = test(program)
-        if reason:
-            print("masters: %s: skipped: %s" % (test.__name__, reason))
+    # those that wait for silence do so beside the others
+    with ThreadPoolExecutor() as beside:
+        waiting = [(test, beside.submit(test, program)) for test in (left_alone, nfo_left_alone, clock_of_our_own)]
+        for test in (nfo_serial, libmodbus_rtu, pymodbus_rtu, pymodbus_ascii, two_scraps):
+            told(test, test(program))
+        for test, ended in waiting:
+            told(test, ended.result())
+
+
+def told(test, reason):
+    """A test that could not be had says why."""
+    if reason:
+        print("masters: %s: skipped: %s" % (test.__name__, reason))
 
 
 main()

@@ -4,7 +4,7 @@ import random
 READ, INPUT, ONE, MANY, COILS = 3, 4, 6, 16, 1
 
 # document 01's outcomes, and the exception of each
-EXCEPTION = {2: 2, 3: 2, 4: 3, 7: 4, 9: 1}
+EXCEPTION = {2: 2, 3: 2, 4: 3, 5: 4, 7: 4, 9: 1}
 
 
 def register(adi):
@@ -13,7 +13,7 @@ def register(adi):
 
 
 P_NOM, N_NOM, I_MAGN, ACCEL, RETARD = register(301), register(304), register(306), register(308), register(309)
-R_FIX1, SI_BAUD, MB_ADR, SPD_NUM, SPD_DEN = register(313), register(315), register(319), register(320), register(321)
+R_FIX1, SI_BAUD, SIO_TOT, MB_ADR, SPD_NUM, SPD_DEN = register(313), register(315), register(318), register(319), register(320), register(321)
 MODE, SCMD, INV_ST_ACK, INV_ST = register(34), register(35), register(38), 0x02A5
 SIO_ERR, FRQ_ACT, I_RMS, OP_TIME = register(323), register(125), register(120), register(39)
 
@@ -113,6 +113,28 @@ def spoilt(framed):
     ]
 
 
+def left_alone():
+    """A master that is silent for longer than SioTot, 5 seconds from the start, at MODE 3: what it asks before, and after. The motor is stopped and 14 stands, until SioErr is read."""
+    before = [writes(ONE, MODE, 3), reads(READ, INV_ST, [37])]
+    after = [
+        reads(READ, INV_ST, [14]),
+        refused(5, ONE, ACCEL, [100]),
+        reads(READ, INV_ST_ACK, [14]),  # which does not clear 14
+        reads(READ, SIO_ERR, [1]),
+        reads(READ, INV_ST, [37]),
+        reads(READ, SIO_ERR, [0]),
+        writes(ONE, ACCEL, 100),
+    ]
+    return before, after
+
+
+def left_alone_with_0():
+    """The same after SioTot 0: no time is too long."""
+    before = [writes(ONE, SIO_TOT, 0), *left_alone()[0]]
+    after = [reads(READ, INV_ST, [37]), reads(READ, SIO_ERR, [0]), writes(ONE, ACCEL, 100)]
+    return before, after
+
+
 def steps(framed):
     """Document 01's column Start, what may be written, what may not, and why; `framed` makes a message of an address and a data unit."""
     return [
@@ -124,6 +146,9 @@ def steps(framed):
         reads(INPUT, MB_ADR, [1]),
         reads(READ, FRQ_ACT, [0]),
         reads(INPUT, SIO_ERR, [0]),
+        # however slow this master is, it is not taken for dead
+        reads(READ, SIO_TOT, [50]),
+        writes(ONE, SIO_TOT, 0),
         # 16 bits, by 06 and by 16
         writes(ONE, ACCEL, 100),
         reads(READ, ACCEL, [100]),

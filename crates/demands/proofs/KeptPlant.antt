@@ -79,7 +79,7 @@ choose true a b = a refl
 choose false a b = b refl
 
 -- the number at the name k, once that at i is v: past the end of the plant nothing is set
-at-name : (Q : ℕ → Type 0) (p : Plant) (i k v : ℕ) → Q (getD p k 0) → (i ≡ k → Q v) → Q (getD (set p i v) k 0)
+pub at-name : (Q : ℕ → Type 0) (p : Plant) (i k v : ℕ) → Q (getD p k 0) → (i ≡ k → Q v) → Q (getD (set p i v) k 0)
 at-name Q p i k v keep right = go (eqb i k) (ltb k (length p)) refl refl
   where
     go : (same there : Bool) → eqb i k ≡ same → ltb k (length p) ≡ there → Q (getD (set p i v) k 0)

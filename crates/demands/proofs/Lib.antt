@@ -27,5 +27,6 @@ pub mod Changing
 pub mod Coming
 pub mod Effects
 pub mod Host
+pub mod Silence
 pub mod Cases
 pub mod Demands

@@ -2,6 +2,7 @@
 use Rattle.demands.specs.Kept.{Kept}
 use Rattle.demands.specs.Demand1.{Demand1}
 use Rattle.demands.specs.Host.{Host}
+use Rattle.demands.specs.Silence.{SilenceStops}
 use Rattle.demands.specs.Effects.{Effects}
 use Rattle.demands.specs.Demand2.{Demand2}
 use Rattle.demands.specs.Letters.{Letters}
@@ -12,6 +13,7 @@ pub record Demands : Type 0 where
   pub kept : Kept
   pub demand-1 : Demand1
   pub host : Host
+  pub silence : SilenceStops
   pub effects : Effects
   pub demand-2 : Demand2
   pub letters : Letters

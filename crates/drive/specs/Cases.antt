@@ -1,8 +1,10 @@
--- Worked cases, one table. Each line is what a definition computes, and the number that document 01 gives. Assumes nothing.
+-- Worked cases, one table. Each line is what a definition computes, and the number that document 01, or a request of document 02, gives. Assumes nothing.
 use mathlib.Core.Path.{_≡_, refl}
 use mathlib.Core.Bool.{true}
 use mathlib.Core.List.{List, [], _∷_, map}
 use Prim.Native.Nat.{ℕ}
+use lib.ListN.{getD, set}
+use Rattle.table.specs.Names.{SioTot}
 use Rattle.table.specs.Table.{rows, startWords}
 use Rattle.drive.specs.Plant.{Plant, scmd, withMode, withScmd, started, restarted}
 use Rattle.drive.specs.Flags.{flagged, lowestFrom, lowestOf}
@@ -46,6 +48,9 @@ cases =
     -- a restart: the flags of the standing causes, MODE 1
     ∷ (statusOf (restarted faulty), 5)
     ∷ (statusOf (restarted over), 24)
+    -- SioTot: "The start number becomes 50"; "Cards restarted with a SioTot of their own keep it"
+    ∷ (getD started SioTot 0, 50)
+    ∷ (getD (restarted (set started SioTot 10)) SioTot 0, 10)
     ∷ []
 
 pub cases-hold : map (λ (c : ℕ × ℕ). c .0) cases ≡ map (λ (c : ℕ × ℕ). c .1) cases

@@ -24,40 +24,40 @@ pub const STATION: usize = ROWS + 3;
 
 // The column Start; DIN1 is inactive, no cause or flag stands, and our own address is MbAdr's start.
 const START: Plant = [
-    150,
-    400,
-    50,
-    1500,
-    80,
-    100,
-    1000,
-    50,
-    50,
-    0,
-    0,
-    500,
-    0,
-    1,
-    128,
-    0,
-    1,
-    0,
-    1,
-    1,
-    1,
-    0,
-    1,
-    0,
-    0,
-    0,
-    0,
-    0,
-    0,
-    0,
-    0,
-    0,
-    0,
-    1,
+    150, // P-Nom
+    400, // U-Nom
+    50, // f-Nom
+    1500, // N-Nom
+    80, // cosφ
+    100, // I-magn
+    1000, // I-limt
+    50, // Accel
+    50, // Retard
+    0, // Mode
+    0, // Fr-Min
+    500, // Fr-Max
+    0, // R-fix1
+    1, // RegAmp
+    128, // SiBaud
+    0, // SiProt
+    1, // SiAdr
+    50, // SioTot
+    1, // MbAdr
+    1, // SpdScl num
+    1, // SpdScl den
+    0, // Setpoint
+    1, // MODE
+    0, // SCMD
+    0, // Inv St, ack
+    0, // Inv St
+    0, // SioErr
+    0, // FrqAct
+    0, // I-rms
+    0, // OpTime
+    0, // DIN1
+    0, // causes
+    0, // flags
+    1, // our own address
 ];
 
 // A plant at start.

@@ -1,9 +1,12 @@
 // A card on a serial device: `line PROTOCOL DEVICE`, where PROTOCOL is `nfo`, `rtu` or `ascii`. It reads the device to its end, writes each reply
 // on it, and prints a line for each message taken, as `session` does. A read is a scrap of the stream; for Modbus RTU it is a frame, so the port
-// is set up to end a read at silence.
+// is set up to end a read at silence. Before a scrap is served, the card is handed the tenths that have passed: it is seen by its messages alone,
+// so that is early enough.
 //
 // Wrong arguments are told on standard error, and no device is opened then: the file `args` has a protocol that there is not.
+use card::Card;
 use card::Protocol;
+use clock::Time;
 use libc::STDERR_FILENO;
 use protocols::Named;
 use session_loop::Replies;
@@ -16,14 +19,66 @@ fn usage() {
     );
 }
 
-// A card by the protocol on the device, to the device's end.
+// Tells that the card cannot count time. It would not stop by itself then, so it is not run.
+fn no_time() {
+    io::write_all(STDERR_FILENO, b"line: the clock tells no time\n");
+}
+
+// The time that the clock tells now.
+fn present() -> Time {
+    let told = clock::monotonic();
+    clock::time_of(told.status, told.seconds, told.nanoseconds)
+}
+
+// A card by the protocol on the open device, from this time on, to the device's end.
+fn run(protocol: Protocol, device: i32, start: u64) {
+    let card = Card::start(protocol);
+    let line = card.port;
+    let pending = line.pending;
+    let mut held = pending.bytes;
+    let mut len = pending.len;
+    let mut port = line.numbers;
+    let mut plant = card.plant;
+    let mut scrap = io::buffer();
+    let mut last = start;
+    let mut turns = u64::MAX;
+    while turns > 0 {
+        let got = libc::read(device, &mut scrap);
+        if got <= 0 {
+            return;
+        }
+        let Time::At(now) = present() else {
+            no_time();
+            return;
+        };
+        let passed = ticks::time_passed(last, now);
+        ticks::hand_over(&mut port, &mut plant, passed.tenths);
+        last = passed.last;
+        let n = io::count(got, &scrap);
+        len = session_loop::serve_all(
+            &mut held,
+            len,
+            &mut port,
+            &mut plant,
+            &scrap[..n],
+            Replies::Sent(device),
+        );
+        turns -= 1;
+    }
+}
+
+// A card by the protocol on the device of this name.
 fn serve(protocol: Protocol, device: &[u8]) {
+    let Time::At(start) = present() else {
+        no_time();
+        return;
+    };
     let port = os::open_update(device);
     if port < 0 {
         os::fail(device);
         return;
     }
-    session_loop::run(protocol, port, Replies::Sent(port));
+    run(protocol, port, start);
     libc::close(port);
 }
 

@@ -1,4 +1,4 @@
-// The session of document 01's case 9, over any protocol: bytes from a port, a line on standard output for each message taken.
+// The session of document 01's case 9, and for any protocol what a program does with the bytes of one read: a line on standard output for each message taken.
 //
 // No contract can say what is read and written. All between the two is promised: by `serve` the card after a call, its reply and the text of its line, and by
 // `serve_all` the card that it hands on: the one at which the calls on what one read hands over end, the last byte used.
@@ -9,6 +9,7 @@ use call::serve;
 use card::Card;
 use card::Protocol;
 use drive::Plant;
+use libc::STDIN_FILENO;
 use libc::STDOUT_FILENO;
 use port::Numbers;
 ghost use mathlib.Core.Path.{_≡_};
@@ -21,12 +22,11 @@ pub enum Replies {
     Sent(i32),
 }
 
-// Reads the port to its end, from a fresh card on. Each reply and each line is written as soon as the last byte of its message was read. What one read hands
-// over is a scrap of a stream, or for Modbus RTU a frame: silence ends a read there.
-pub fn run(protocol: Protocol, from: i32, replies: Replies)
+// The session: reads NFO serial on standard input to its end, from a fresh card on. Each line is written as soon as the last byte of its message was read.
+pub fn run()
     ensures { λ r. ⌜ r ≡ tt ⌝ }
 {
-    let card = Card::start(protocol);
+    let card = Card::start(Protocol::Nfo);
     let line = card.port;
     let pending = line.pending;
     let mut held = pending.bytes;
@@ -36,18 +36,26 @@ pub fn run(protocol: Protocol, from: i32, replies: Replies)
     let mut scrap = io::buffer();
     let mut turns = u64::MAX;
     while turns > 0 {
-        let got = libc::read(from, &mut scrap);
+        let got = libc::read(STDIN_FILENO, &mut scrap);
         if got <= 0 {
             return;
         }
         let n = io::count(got, &scrap);
-        len = serve_all(&mut held, len, &mut port, &mut plant, &scrap[..n], replies);
+        len = serve_all(
+            &mut held,
+            len,
+            &mut port,
+            &mut plant,
+            &scrap[..n],
+            Replies::Unsent,
+        );
         turns -= 1;
     }
 }
 
-// Hands the scrap over, call by call: each is given the bytes that the one before did not use. Of a frame a call uses all. Tells how many bytes are pending then.
-fn serve_all(
+// Hands the scrap over to a card whose parts are lent, call by call: each is given the bytes that the one before did not use. Of a frame a call uses all. Each reply
+// and each line is written at once. Tells how many bytes are pending then.
+pub fn serve_all(
     held: &mut [u8; 512],
     len: usize,
     port: &mut Numbers,
