@@ -21,7 +21,7 @@ isZero (negsuc n) = false
 abbrev pub lastSecond : ℕ
 lastSecond = 1000000000000000
 
--- the time of a status, seconds and nanoseconds
+-- the time of a status, seconds and nanoseconds: none with a status other than 0, or with seconds past the last
 unfoldable pub timeOf : ℤ → ℤ → ℤ → Time
 timeOf status seconds nanoseconds =
     pick (isZero status) (pick (ltb lastSecond (naturalOf seconds)) Unknown (At (naturalOf seconds * 1000 + naturalOf nanoseconds / 1000000))) Unknown

@@ -39,7 +39,7 @@ pub fn monotonic() -> Told
     }
 }
 
-// The time that an answer of these numbers tells. With a status other than 0 there is none.
+// The time that an answer of these numbers tells: none with a status other than 0, or with seconds past the last. A negative number counts as 0.
 pub fn time_of(status: i32, seconds: i64, nanoseconds: i64) -> Time
     ensures { λ r. ⌜ r ≡ timeOf status seconds nanoseconds ⌝ }
 {

@@ -1,6 +1,6 @@
 -- A dead master: "Too many cards were put up with SioTot 0, so a dead master left pumps running all night. The start number becomes 50 (5 seconds)." (Document 02,
--- request 2.) Read aloud: take any card at MODE 3 whose SioTot is not 0. Let anything come on its line but a message of its own, and let the host tell it anything but
--- start and restart. Once its ticks add to more than SioTot, its motor does not run and 14 stands. (That it does not stop before is `Host`'s: up to SioTot a tick only
+-- request 2.) Read aloud: take any card at MODE 3 whose SioTot is not 0. Let anything come on its line but a message for it, and let the host tell it anything but start
+-- and restart. Once its ticks add to more than SioTot, its motor does not run and 14 stands. (That it does not stop before is `Host`'s: up to SioTot a tick only
 -- counts.) Assumes nothing.
 use mathlib.Core.Path.{_≡_}
 use mathlib.Core.Logic.{_⊎_, _≢_}
