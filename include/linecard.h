@@ -19,22 +19,25 @@ enum card_protocol { CARD_NFO = 0, CARD_RTU = 1, CARD_ASCII = 2 };
 enum card_outcome {
     CARD_DONE = 0,
     CARD_NOT_OURS = 1,        /* other address, or broadcast read */
-    CARD_NO_ROW = 2,          /* no such row or register span */
+    CARD_NO_ROW = 2,          /* no such row, register span or object */
     CARD_READ_ONLY = 3,
     CARD_NOT_ALLOWED = 4,     /* value not allowed */
     CARD_FLAG_STANDS = 5,     /* a write while a fault flag stands */
     CARD_RUNNING = 6,         /* Init row, running */
     CARD_NOT_PERMITTED = 7,   /* SCMD not permitted */
-    CARD_MALFORMED = 8,       /* value not hex; bad length or count */
-    CARD_UNKNOWN = 9,         /* unknown function */
-    CARD_SHORT_BUFFER = 10,   /* reply buffer under CARD_REPLY_LEAST: no byte used, nothing changed */
+    CARD_MALFORMED = 8,       /* value not hex; bad length, count or identification code */
+    CARD_UNKNOWN = 9,         /* unknown function, or 43 with a type that is not 14 */
+    CARD_SHORT_BUFFER = 10,   /* reply buffer under the protocol's CARD_REPLY_LEAST: no byte used, nothing changed */
     CARD_BAD_FRAME = 11,      /* RTU length or CRC wrong */
     CARD_NO_SUCH_EVENT = 12,  /* host event number not allowed: nothing changed */
     CARD_NOTHING_TAKEN = 15   /* bytes pending or dropped */
 };
 
-/* A reply buffer has 19 bytes at least; no reply is longer. */
-#define CARD_REPLY_LEAST 19
+/* A reply buffer has so many bytes at least, by the protocol; no reply is longer. */
+#define CARD_NFO_REPLY 19
+#define CARD_RTU_REPLY 256
+#define CARD_ASCII_REPLY 513
+#define CARD_REPLY_LEAST(protocol) ((protocol) == CARD_RTU ? CARD_RTU_REPLY : (protocol) == CARD_ASCII ? CARD_ASCII_REPLY : CARD_NFO_REPLY)
 
 /* The words of a plant: each row of the table at its line, two's complement, and behind the rows the numbers that are no rows. The paper's Mode and MODE are
  * CARD_MODE_SETTING and CARD_MODE. The words at Inv St, which is worked out, and at SioErr, which is the port's, hold nothing. */
@@ -62,21 +65,25 @@ struct card_port {
     uint32_t numbers[CARD_NUMBERS];
 };
 
-/* The whole state: a plant behind a port. */
+/* Who a card is, any bytes, and where each part of them begins: the revision's 17, the model's 8, the serial number's 16. */
+enum card_part { CARD_REVISION = 0, CARD_MODEL = 17, CARD_SERIAL = 25, CARD_IDENTITY = 41 };
+
+/* The whole state: a plant behind a port, and the identity that it was given at start. */
 typedef struct card {
     struct card_port port;
     uint32_t plant[CARD_WORDS];
+    uint8_t identity[CARD_IDENTITY];
 } card;
 
 static_assert(sizeof(size_t) == 8, "x86-64");
-static_assert(CARD_WORDS == 34 && CARD_NUMBERS == 3, "the arrays that the library is lent");
+static_assert(CARD_WORDS == 34 && CARD_NUMBERS == 3 && CARD_IDENTITY == 41, "the arrays that the library is lent");
 
 #ifdef __cplusplus
 extern "C" {
 #endif
 
 /* ---- what the library has: each is lent the parts of a card that it touches */
-void card_start_in(uint8_t held[512], size_t *len, uint32_t port[3], uint32_t plant[34], uint32_t protocol);
+void card_start_in(uint8_t held[512], size_t *len, uint32_t port[3], uint32_t plant[34], uint8_t identity[41], uint32_t protocol, const uint8_t given[41]);
 void card_restart_in(size_t *len, uint32_t port[3], uint32_t plant[34]);
 uint32_t card_raise_fault_in(uint32_t plant[34], uint32_t n);
 uint32_t card_end_cause_in(uint32_t plant[34], uint32_t n);
@@ -86,13 +93,13 @@ uint32_t card_i_rms_in(uint32_t plant[34], uint32_t word);
 uint32_t card_op_time_in(uint32_t plant[34], uint32_t word);
 uint32_t card_parity_fault_in(uint32_t port[3], uint32_t plant[34]);
 uint32_t card_tick_in(uint32_t port[3], uint32_t plant[34], uint32_t tenths);
-uint32_t card_receive_in(uint8_t held[512], size_t *len, uint32_t port[3], uint32_t plant[34],
+uint32_t card_receive_in(uint8_t held[512], size_t *len, uint32_t port[3], uint32_t plant[34], const uint8_t identity[41],
                          const uint8_t *bytes, size_t n_bytes, uint8_t *reply, size_t n_reply, size_t told[2]);
 uint32_t card_receive_nfo_in(uint8_t held[512], size_t *len, uint32_t port[3], uint32_t plant[34],
                              const uint8_t *bytes, size_t n_bytes, uint8_t *reply, size_t n_reply, size_t told[2]);
-uint32_t card_receive_rtu_in(uint8_t held[512], size_t *len, uint32_t port[3], uint32_t plant[34],
+uint32_t card_receive_rtu_in(uint8_t held[512], size_t *len, uint32_t port[3], uint32_t plant[34], const uint8_t identity[41],
                              const uint8_t *bytes, size_t n_bytes, uint8_t *reply, size_t n_reply, size_t told[2]);
-uint32_t card_receive_ascii_in(uint8_t held[512], size_t *len, uint32_t port[3], uint32_t plant[34],
+uint32_t card_receive_ascii_in(uint8_t held[512], size_t *len, uint32_t port[3], uint32_t plant[34], const uint8_t identity[41],
                                const uint8_t *bytes, size_t n_bytes, uint8_t *reply, size_t n_reply, size_t told[2]);
 
 /* Where the register data of a well-made RTU 06 or 16 lies in its frame, whatever its address: place[0] its first place, place[1] its length; for other
@@ -104,13 +111,14 @@ void card_register_data(const uint8_t *frame, size_t n_frame, size_t place[2]);
 #endif
 
 /* ---- what a host calls */
-/* A fresh card, with the table's start words: SioTot is 50, 5 seconds. Whatever the memory held before will do. */
-static inline void card_start(card *c, uint32_t protocol)
+/* A fresh card, with the table's start words: SioTot is 50, 5 seconds. The identity given, which lies outside the card, is copied into it. Whatever the memory
+ * held before will do. */
+static inline void card_start(card *c, uint32_t protocol, const uint8_t identity[CARD_IDENTITY])
 {
-    card_start_in(c->port.pending.bytes, &c->port.pending.len, c->port.numbers, c->plant, protocol);
+    card_start_in(c->port.pending.bytes, &c->port.pending.len, c->port.numbers, c->plant, c->identity, protocol, identity);
 }
 
-/* Restart: the settings, SioTot among them, DIN1, causes and measured numbers stay; nothing is pending; MbAdr counts from now on. */
+/* Restart: the settings, SioTot among them, DIN1, causes, measured numbers and the identity stay; nothing is pending; MbAdr counts from now on. */
 static inline void card_restart(card *c) { card_restart_in(&c->port.pending.len, c->port.numbers, c->plant); }
 
 /* Fault n is raised, or its cause has ended: 0, or 12 where n is none of 1 to 13 and 16 to 23. */
@@ -136,21 +144,22 @@ static inline uint32_t card_tick(card *c, uint32_t tenths) { return card_tick_in
  * other bytes stay. told[0] gets the bytes used: hand the rest again first. told[1] gets the reply's length, 0 for none. The outcome is 0 to 11 or 15. */
 static inline uint32_t card_receive(card *c, const uint8_t *bytes, size_t n_bytes, uint8_t *reply, size_t n_reply, size_t told[2])
 {
-    return card_receive_in(c->port.pending.bytes, &c->port.pending.len, c->port.numbers, c->plant, bytes, n_bytes, reply, n_reply, told);
+    return card_receive_in(c->port.pending.bytes, &c->port.pending.len, c->port.numbers, c->plant, c->identity, bytes, n_bytes, reply, n_reply, told);
 }
 
-/* The same by one protocol, whatever the port's number says: firmware that speaks one protocol links that one alone. */
+/* The same by one protocol, whatever the port's number says: firmware that speaks one protocol links that one alone. No message of NFO serial asks who the card
+ * is, so that call is not lent the identity. */
 static inline uint32_t card_receive_nfo(card *c, const uint8_t *bytes, size_t n_bytes, uint8_t *reply, size_t n_reply, size_t told[2])
 {
     return card_receive_nfo_in(c->port.pending.bytes, &c->port.pending.len, c->port.numbers, c->plant, bytes, n_bytes, reply, n_reply, told);
 }
 static inline uint32_t card_receive_rtu(card *c, const uint8_t *bytes, size_t n_bytes, uint8_t *reply, size_t n_reply, size_t told[2])
 {
-    return card_receive_rtu_in(c->port.pending.bytes, &c->port.pending.len, c->port.numbers, c->plant, bytes, n_bytes, reply, n_reply, told);
+    return card_receive_rtu_in(c->port.pending.bytes, &c->port.pending.len, c->port.numbers, c->plant, c->identity, bytes, n_bytes, reply, n_reply, told);
 }
 static inline uint32_t card_receive_ascii(card *c, const uint8_t *bytes, size_t n_bytes, uint8_t *reply, size_t n_reply, size_t told[2])
 {
-    return card_receive_ascii_in(c->port.pending.bytes, &c->port.pending.len, c->port.numbers, c->plant, bytes, n_bytes, reply, n_reply, told);
+    return card_receive_ascii_in(c->port.pending.bytes, &c->port.pending.len, c->port.numbers, c->plant, c->identity, bytes, n_bytes, reply, n_reply, told);
 }
 
 #endif

@@ -1,9 +1,39 @@
 /* Every function of linecard.h, the library's own and the wrappers, held against documents 01 and 02. What does not hold is a line: where, what was seen, and
- * what should be. The memory is the host's: its fields are read and put through the header's structs. */
+ * what should be. The memory is the host's: its fields are read and put through the header's structs.
+ *
+ * `run` puts other functions in the place of some, and this must tell. NFO serial's call is the one that is not lent an identity: with ALL_FOR_NFO the call for
+ * all protocols stands in its place, with NFO_FOR_ALL it stands in that one's. */
 #include <stdio.h>
 #include <string.h>
 
+#if defined ALL_FOR_NFO
+#define card_receive_nfo_in exchanged_in
+#elif defined NFO_FOR_ALL
+#define card_receive_in exchanged_in
+#endif
 #include "linecard.h"
+
+/* What the cards of this test are given: any bytes. */
+#define REVISION "Rev 02.03\x00\x80\xFF:03AB"
+#define MODEL "P\x00mp 7.5"
+#define SERIAL "2024-0817\x00\xFF\x7FZ001"
+static const uint8_t given[CARD_IDENTITY + 1] = REVISION MODEL SERIAL;
+static_assert(sizeof REVISION == 17 + 1 && sizeof MODEL == 8 + 1 && sizeof SERIAL == 16 + 1, "an identity");
+
+#if defined ALL_FOR_NFO
+uint32_t exchanged_in(uint8_t held[512], size_t *len, uint32_t port[3], uint32_t plant[34],
+                      const uint8_t *bytes, size_t n_bytes, uint8_t *reply, size_t n_reply, size_t told[2])
+{
+    return card_receive_in(held, len, port, plant, given, bytes, n_bytes, reply, n_reply, told);
+}
+#elif defined NFO_FOR_ALL
+uint32_t exchanged_in(uint8_t held[512], size_t *len, uint32_t port[3], uint32_t plant[34], const uint8_t identity[41],
+                      const uint8_t *bytes, size_t n_bytes, uint8_t *reply, size_t n_reply, size_t told[2])
+{
+    (void)identity;
+    return card_receive_nfo_in(held, len, port, plant, bytes, n_bytes, reply, n_reply, told);
+}
+#endif
 
 static const char *part = "";   /* what is looked at */
 static unsigned long held, wrong;
@@ -12,7 +42,7 @@ static void same(const char *what, unsigned long long saw, unsigned long long ri
 {
     held += saw == right;
     wrong += saw != right;
-    if (saw != right)
+    if (saw != right && wrong <= 100)
         printf("functions: %s: %s: saw %llu, should be %llu\n", part, what, saw, right);
 }
 
@@ -38,6 +68,7 @@ static void same_words(const card *saw, const card *right)
         same_at("port.numbers", i, saw->port.numbers[i], right->port.numbers[i]);
     for (size_t i = 0; i < CARD_WORDS; i++)
         same_at("plant", i, saw->plant[i], right->plant[i]);
+    same_bytes("identity", saw->identity, right->identity, CARD_IDENTITY);
 }
 
 static void same_card(const card *saw, const card *right)
@@ -52,7 +83,7 @@ static card fresh(uint32_t protocol)
 {
     card c;
     memset(&c, 0x5A, sizeof c);
-    card_start(&c, protocol);
+    card_start(&c, protocol, given);
     return c;
 }
 
@@ -76,11 +107,12 @@ static card driving(void)
 }
 
 /* ---- start and restart */
-/* The column Start; "At start DIN1 is inactive and no cause stands". */
+/* The column Start; "At start DIN1 is inactive and no cause stands"; the identity is the one given, whatever its bytes are, and that one stays. */
 static void start(void)
 {
     static const uint32_t column[] = { 150, 400, 50, 1500, 80, 100, 1000, 50, 50, 0, 0, 500, 0, 1, 128, 0, 1, 50, 1, 1, 1, 0 };
     static const uint32_t protocols[][2] = { { CARD_NFO, CARD_NFO }, { CARD_RTU, CARD_RTU }, { CARD_ASCII, CARD_ASCII }, { 7, CARD_NFO } };
+    uint8_t other[CARD_IDENTITY];
 
     part = "start";
     for (size_t k = 0; k < sizeof protocols / sizeof protocols[0]; k++) {
@@ -100,14 +132,22 @@ static void start(void)
         SAME(c.plant[CARD_CAUSES], 0);
         SAME(c.plant[CARD_FLAGS], 0);
         SAME(c.plant[CARD_STATION], 1);
+        same_bytes("identity", c.identity, given, CARD_IDENTITY);
+        same_bytes("identity, the model", c.identity + CARD_MODEL, (const uint8_t *)MODEL, 8);
+        same_bytes("identity, the serial number", c.identity + CARD_SERIAL, (const uint8_t *)SERIAL, 16);
         memset(&d, 0xA5, sizeof d);
-        card_start_in(d.port.pending.bytes, &d.port.pending.len, d.port.numbers, d.plant, protocols[k][0]);
+        card_start_in(d.port.pending.bytes, &d.port.pending.len, d.port.numbers, d.plant, d.identity, protocols[k][0], given);
         same_card(&d, &c);
+        for (size_t i = 0; i < CARD_IDENTITY; i++)
+            c.identity[i] = other[i] = (uint8_t)(7 * i + k);
+        card_start_in(d.port.pending.bytes, &d.port.pending.len, d.port.numbers, d.plant, d.identity, protocols[k][0], other);
+        same_card(&d, &c);
+        same_bytes("the identity given", other, c.identity, CARD_IDENTITY);
     }
 }
 
 /* "Restart keeps rows 301 to 322, DIN1, causes and measured numbers; flags become the standing causes; MODE 1, SCMD, SioErr and sum 0, nothing pending."
- * Our Modbus address "is what MbAdr held at the last start or restart". */
+ * Our Modbus address "is what MbAdr held at the last start or restart". The identity stays. */
 static void restart(void)
 {
     card c = driving(), d, right;
@@ -288,6 +328,7 @@ static void silence(void)
 /* The functions for a protocol: those by the port's number, and its own. */
 enum way { ALL, ALL_IN, OWN, OWN_IN, WAYS };
 
+/* The library's own are lent the identity where it lies, here in memory that is never written; the wrappers lend the card's. */
 static uint32_t receive(enum way way, uint32_t protocol, card *c, const uint8_t *bytes, size_t n, uint8_t *reply, size_t room, size_t told[2])
 {
     struct card_pending *p = &c->port.pending;
@@ -295,13 +336,13 @@ static uint32_t receive(enum way way, uint32_t protocol, card *c, const uint8_t 
     if (way == ALL)
         return card_receive(c, bytes, n, reply, room, told);
     if (way == ALL_IN)
-        return card_receive_in(p->bytes, &p->len, c->port.numbers, c->plant, bytes, n, reply, room, told);
+        return card_receive_in(p->bytes, &p->len, c->port.numbers, c->plant, given, bytes, n, reply, room, told);
     if (protocol == CARD_RTU)
         return way == OWN ? card_receive_rtu(c, bytes, n, reply, room, told)
-                          : card_receive_rtu_in(p->bytes, &p->len, c->port.numbers, c->plant, bytes, n, reply, room, told);
+                          : card_receive_rtu_in(p->bytes, &p->len, c->port.numbers, c->plant, given, bytes, n, reply, room, told);
     if (protocol == CARD_ASCII)
         return way == OWN ? card_receive_ascii(c, bytes, n, reply, room, told)
-                          : card_receive_ascii_in(p->bytes, &p->len, c->port.numbers, c->plant, bytes, n, reply, room, told);
+                          : card_receive_ascii_in(p->bytes, &p->len, c->port.numbers, c->plant, given, bytes, n, reply, room, told);
     return way == OWN ? card_receive_nfo(c, bytes, n, reply, room, told)
                       : card_receive_nfo_in(p->bytes, &p->len, c->port.numbers, c->plant, bytes, n, reply, room, told);
 }
@@ -312,7 +353,7 @@ static card port_for(enum way way, uint32_t protocol) { return fresh(way == ALL 
 /* One call, and all that it leaves: the outcome, the bytes used, the reply and the bytes past it, the words. */
 static void call(enum way way, uint32_t protocol, card *c, const uint8_t *bytes, size_t n, size_t room, uint32_t outcome, size_t used, const char *reply, size_t len, const card *right)
 {
-    uint8_t buffer[32], after[32];
+    uint8_t buffer[640], after[640];
     size_t told[2];
 
     memset(buffer, 0xA5, sizeof buffer);
@@ -325,28 +366,49 @@ static void call(enum way way, uint32_t protocol, card *c, const uint8_t *bytes,
     same_words(c, right);
 }
 
-/* A message to a fresh card, by each function. "A reply buffer under 19 bytes is 10, with no byte used"; "A stream call uses bytes up to the end of the first
- * message taken": of two, those of the first. The message changes one word, or none where `word` is CARD_WORDS. */
+/* "Reply buffers now need 256 bytes for RTU and 513 for ASCII; NFO stays at 19", by the protocol's number; under that is 10. */
+static const size_t least[] = { 19, 256, 513 };
+static const size_t rooms[] = { 0, 18, 19, 255, 256, 512, 513, 600 };
+
+static void limits(void)
+{
+    part = "limits";
+    SAME(CARD_NFO_REPLY, least[CARD_NFO]);
+    SAME(CARD_RTU_REPLY, least[CARD_RTU]);
+    SAME(CARD_ASCII_REPLY, least[CARD_ASCII]);
+    for (uint32_t protocol = 0; protocol < 9; protocol++)
+        SAME(CARD_REPLY_LEAST(protocol), least[protocol < 3 ? protocol : CARD_NFO]);
+}
+
+/* A message to a fresh card, by each function and with buffers about the limits. 10 comes before all else, "with no byte used"; "A stream call uses bytes up to the
+ * end of the first message taken": of two, those of the first. The message changes one word, or none where `word` is CARD_WORDS. */
 static void message(const char *what, uint32_t protocol, const char *bytes, size_t n, uint32_t outcome, const char *reply, size_t len, size_t word, uint32_t value)
 {
     uint8_t twice[64];
-    size_t given = protocol == CARD_RTU ? n : 2 * n;
+    size_t sent = protocol == CARD_RTU ? n : 2 * n;
 
     part = what;
     memcpy(twice, bytes, n);
     memcpy(twice + n, bytes, n);
     for (enum way way = 0; way < WAYS; way++) {
-        card c = port_for(way, protocol), before = c, right = c;
-        call(way, protocol, &c, twice, given, CARD_REPLY_LEAST - 1, CARD_SHORT_BUFFER, 0, "", 0, &before);
-        same_card(&c, &before);
+        const card before = port_for(way, protocol);
+        card right = before;
         if (word < CARD_WORDS)
             right.plant[word] = value;
-        call(way, protocol, &c, twice, given, CARD_REPLY_LEAST, outcome, n, reply, len, &right);
-        SAME(c.port.pending.len, 0);
+        for (size_t k = 0; k < sizeof rooms / sizeof rooms[0]; k++) {
+            card c = before;
+            if (rooms[k] < least[protocol]) {
+                call(way, protocol, &c, twice, sent, rooms[k], CARD_SHORT_BUFFER, 0, "", 0, &before);
+                same_card(&c, &before);
+            } else {
+                call(way, protocol, &c, twice, sent, rooms[k], outcome, n, reply, len, &right);
+                SAME(c.port.pending.len, 0);
+            }
+        }
     }
 }
 
-/* A message of a stream in two scraps: the first is pending, the second ends it. No bytes at all are 15. */
+/* A message of a stream in two scraps: the first is pending, the second ends it. No bytes at all are 15, but 10 where the buffer is too short. */
 static void scraps(const char *what, uint32_t protocol, const char *bytes, size_t n, size_t cut, const char *reply, size_t len)
 {
     const uint8_t *b = (const uint8_t *)bytes;
@@ -354,12 +416,14 @@ static void scraps(const char *what, uint32_t protocol, const char *bytes, size_
     part = what;
     for (enum way way = 0; way < WAYS; way++) {
         card c = port_for(way, protocol), right = c;
-        call(way, protocol, &c, b, cut, 32, CARD_NOTHING_TAKEN, cut, "", 0, &right);
+        call(way, protocol, &c, b, cut, least[protocol], CARD_NOTHING_TAKEN, cut, "", 0, &right);
         SAME(c.port.pending.len, cut);
         same_bytes("port.pending.bytes", c.port.pending.bytes, b, cut);
-        call(way, protocol, &c, b, 0, 32, CARD_NOTHING_TAKEN, 0, "", 0, &right);
+        call(way, protocol, &c, b, 0, least[protocol], CARD_NOTHING_TAKEN, 0, "", 0, &right);
         SAME(c.port.pending.len, cut);
-        call(way, protocol, &c, b + cut, n - cut, 32, CARD_DONE, n - cut, reply, len, &right);
+        call(way, protocol, &c, b, 0, least[protocol] - 1, CARD_SHORT_BUFFER, 0, "", 0, &right);
+        SAME(c.port.pending.len, cut);
+        call(way, protocol, &c, b + cut, n - cut, least[protocol], CARD_DONE, n - cut, reply, len, &right);
         SAME(c.port.pending.len, 0);
     }
 }
@@ -383,6 +447,7 @@ static void bytes_from_the_line(void)
     message("RTU, a write", CARD_RTU, TEXT("\x01\x06\x06\xDC\x00\x64\x49\x53"), CARD_DONE, TEXT("\x01\x06\x06\xDC\x00\x64\x49\x53"), CARD_ACCEL, 100);
     message("RTU, a wrong span", CARD_RTU, TEXT("\x01\x03\x07\x0C\x00\x01\x45\x7D"), CARD_NO_ROW, TEXT("\x01\x83\x02\xC0\xF1"), CARD_WORDS, 0);
     message("RTU, a wrong CRC", CARD_RTU, TEXT("\x01\x06\x06\xDC\x00\x64\x49\x54"), CARD_BAD_FRAME, TEXT(""), CARD_WORDS, 0);
+    message("RTU, no bytes at all", CARD_RTU, TEXT(""), CARD_BAD_FRAME, TEXT(""), CARD_WORDS, 0);
 
     message("case 7, ASCII, a read", CARD_ASCII, TEXT(":01030294000165\r\n"), CARD_DONE, TEXT(":0103020001F9\r\n"), CARD_WORDS, 0);
     message("case 7, ASCII, a wrong span", CARD_ASCII, TEXT(":0103070C0001E8\r\n"), CARD_NO_ROW, TEXT(":0183027A\r\n"), CARD_WORDS, 0);
@@ -395,6 +460,105 @@ static void bytes_from_the_line(void)
     scraps("ASCII, small letters, in scraps", CARD_ASCII, TEXT(":010307000001f4\r\n"), 14, TEXT(":0103020001F9\r\n"));
 }
 
+/* ---- who the card is */
+/* The objects of an answer, each its number, its length and its bytes, and the same in hex. */
+#define OBJECT_0 "\x00\x11" "Valley Water Card"
+#define OBJECT_1 "\x01\x00"
+#define OBJECT_2 "\x02\x11" REVISION
+#define OBJECT_3 "\x03\x00"
+#define OBJECT_4 "\x04\x09" "Line card"
+#define OBJECT_5 "\x05\x08" MODEL
+#define OBJECT_6 "\x06\x00"
+#define OBJECTS OBJECT_0 OBJECT_1 OBJECT_2 OBJECT_3 OBJECT_4 OBJECT_5 OBJECT_6
+#define HEX_0 "0011" "56616C6C65792057617465722043617264"
+#define HEX_1 "0100"
+#define HEX_2 "0211" "5265762030322E30330080FF3A30334142"
+#define HEX_3 "0300"
+#define HEX_4 "0409" "4C696E652063617264"
+#define HEX_5 "0508" "50006D7020372E35"
+#define HEX_6 "0600"
+#define HEXES HEX_0 HEX_1 HEX_2 HEX_3 HEX_4 HEX_5 HEX_6
+
+/* A message that changes no word. */
+#define ASKED(what, protocol, bytes, outcome, reply) message(what, protocol, TEXT(bytes), outcome, TEXT(reply), CARD_WORDS, 0)
+
+/* "codes 01, 02 and 04, objects 00h to 06h, conformity 82h", "All objects asked for go in one reply: with 01 up to 02h, with 02 up to 06h, from the first object
+ * named, or from 00h if that lies outside"; "function 17: byte count 16, then the 16-character serial number". */
+static void identity_told(void)
+{
+    ASKED("RTU, code 01 from 00h", CARD_RTU, "\x01\x2B\x0E\x01\x00\x70\x77", CARD_DONE, "\x01\x2B\x0E\x01\x82\x00\x00\x03" OBJECT_0 OBJECT_1 OBJECT_2 "\x78\x5B");
+    ASKED("RTU, code 01 from 02h", CARD_RTU, "\x01\x2B\x0E\x01\x02\xF1\xB6", CARD_DONE, "\x01\x2B\x0E\x01\x82\x00\x00\x01" OBJECT_2 "\x1E\xDD");
+    ASKED("RTU, code 01 from 03h", CARD_RTU, "\x01\x2B\x0E\x01\x03\x30\x76", CARD_DONE, "\x01\x2B\x0E\x01\x82\x00\x00\x03" OBJECT_0 OBJECT_1 OBJECT_2 "\x78\x5B");
+    ASKED("RTU, code 02 from 00h", CARD_RTU, "\x01\x2B\x0E\x02\x00\x70\x87", CARD_DONE, "\x01\x2B\x0E\x02\x82\x00\x00\x07" OBJECTS "\xA2\x66");
+    ASKED("RTU, code 02 from 05h", CARD_RTU, "\x01\x2B\x0E\x02\x05\xB0\x84", CARD_DONE, "\x01\x2B\x0E\x02\x82\x00\x00\x02" OBJECT_5 OBJECT_6 "\x6B\x59");
+    ASKED("RTU, code 02 from 07h", CARD_RTU, "\x01\x2B\x0E\x02\x07\x31\x45", CARD_DONE, "\x01\x2B\x0E\x02\x82\x00\x00\x07" OBJECTS "\xA2\x66");
+    ASKED("RTU, code 04, 01h", CARD_RTU, "\x01\x2B\x0E\x04\x01\xB2\xE7", CARD_DONE, "\x01\x2B\x0E\x04\x82\x00\x00\x01" OBJECT_1 "\x41\x0D");
+    ASKED("RTU, code 04, 02h", CARD_RTU, "\x01\x2B\x0E\x04\x02\xF2\xE6", CARD_DONE, "\x01\x2B\x0E\x04\x82\x00\x00\x01" OBJECT_2 "\x31\x9D");
+    ASKED("RTU, code 04, 04h", CARD_RTU, "\x01\x2B\x0E\x04\x04\x72\xE4", CARD_DONE, "\x01\x2B\x0E\x04\x82\x00\x00\x01" OBJECT_4 "\xF3\x8D");
+    ASKED("RTU, code 04, 05h", CARD_RTU, "\x01\x2B\x0E\x04\x05\xB3\x24", CARD_DONE, "\x01\x2B\x0E\x04\x82\x00\x00\x01" OBJECT_5 "\x14\xDA");
+    ASKED("RTU, 17", CARD_RTU, "\x01\x11\xC0\x2C", CARD_DONE, "\x01\x11\x10" SERIAL "\x57\x1F");
+
+    ASKED("ASCII, code 01 from 00h", CARD_ASCII, ":012B0E0100C5\r\n", CARD_DONE, ":012B0E0182000003" HEX_0 HEX_1 HEX_2 "12\r\n");
+    ASKED("ASCII, code 01 from 02h", CARD_ASCII, ":012B0E0102C3\r\n", CARD_DONE, ":012B0E0182000001" HEX_2 "50\r\n");
+    ASKED("ASCII, code 02 from 05h", CARD_ASCII, ":012B0E0205BF\r\n", CARD_DONE, ":012B0E0282000002" HEX_5 HEX_6 "46\r\n");
+    ASKED("ASCII, code 02 from FFh", CARD_ASCII, ":012B0E02FFC5\r\n", CARD_DONE, ":012B0E0282000007" HEXES "C1\r\n");
+    ASKED("ASCII, small letters", CARD_ASCII, ":012b0e0205bf\r\n", CARD_DONE, ":012B0E0282000002" HEX_5 HEX_6 "46\r\n");
+    ASKED("ASCII, code 04, 00h", CARD_ASCII, ":012B0E0400C2\r\n", CARD_DONE, ":012B0E0482000001" HEX_0 "04\r\n");
+    ASKED("ASCII, code 04, 04h", CARD_ASCII, ":012B0E0404BE\r\n", CARD_DONE, ":012B0E0482000001" HEX_4 "F0\r\n");
+    ASKED("ASCII, code 04, 06h", CARD_ASCII, ":012B0E0406BC\r\n", CARD_DONE, ":012B0E0482000001" HEX_6 "39\r\n");
+    ASKED("ASCII, 17", CARD_ASCII, ":0111EE\r\n", CARD_DONE, ":011110" "323032342D3038313700FF7F5A303031" "B0\r\n");
+    scraps("ASCII, code 02, in scraps", CARD_ASCII, TEXT(":012B0E0200C4\r\n"), 9, TEXT(":012B0E0282000007" HEXES "C1\r\n"));
+}
+
+/* "a type other than 14 is 9; wrong length (no type byte too) or identification code is 8; unknown object with code 04 is 2"; "a broadcast of them is outcome 1". */
+static void identity_refused(void)
+{
+    ASKED("RTU, code 04, 07h", CARD_RTU, "\x01\x2B\x0E\x04\x07\x32\xE5", CARD_NO_ROW, "\x01\xAB\x02\xDE\xF1");
+    ASKED("RTU, code 03", CARD_RTU, "\x01\x2B\x0E\x03\x00\x71\x17", CARD_MALFORMED, "\x01\xAB\x03\x1F\x31");
+    ASKED("RTU, code 00", CARD_RTU, "\x01\x2B\x0E\x00\x00\x71\xE7", CARD_MALFORMED, "\x01\xAB\x03\x1F\x31");
+    ASKED("RTU, no type", CARD_RTU, "\x01\x2B\x40\x3F", CARD_MALFORMED, "\x01\xAB\x03\x1F\x31");
+    ASKED("RTU, 43 too short", CARD_RTU, "\x01\x2B\x0E\x01\xB4\x70", CARD_MALFORMED, "\x01\xAB\x03\x1F\x31");
+    ASKED("RTU, 43 too long", CARD_RTU, "\x01\x2B\x0E\x01\x00\x00\x76\xE4", CARD_MALFORMED, "\x01\xAB\x03\x1F\x31");
+    ASKED("RTU, type 13", CARD_RTU, "\x01\x2B\x0D\x01\x00\x80\x77", CARD_UNKNOWN, "\x01\xAB\x01\x9E\xF0");
+    ASKED("RTU, type 13 and no more", CARD_RTU, "\x01\x2B\x0D\xFF\x35", CARD_UNKNOWN, "\x01\xAB\x01\x9E\xF0");
+    ASKED("RTU, 17 too long", CARD_RTU, "\x01\x11\x00\x2C\x50", CARD_MALFORMED, "\x01\x91\x03\x0D\x91");
+    ASKED("RTU, 43 to all", CARD_RTU, "\x00\x2B\x0E\x01\x00\x4D\xB7", CARD_NOT_OURS, "");
+    ASKED("RTU, code 03 to all", CARD_RTU, "\x00\x2B\x0E\x03\x00\x4C\xD7", CARD_NOT_OURS, "");
+    ASKED("RTU, code 04, 07h to all", CARD_RTU, "\x00\x2B\x0E\x04\x07\x0F\x25", CARD_NOT_OURS, "");
+    ASKED("RTU, no type, to all", CARD_RTU, "\x00\x2B\x41\xAF", CARD_NOT_OURS, "");
+    ASKED("RTU, type 13 to all", CARD_RTU, "\x00\x2B\x0D\x01\x00\xBD\xB7", CARD_UNKNOWN, "");
+    ASKED("RTU, 17 to all", CARD_RTU, "\x00\x11\xC1\xBC", CARD_NOT_OURS, "");
+    ASKED("RTU, 17 too long, to all", CARD_RTU, "\x00\x11\x00\x7D\x90", CARD_NOT_OURS, "");
+    ASKED("RTU, 43 to another address", CARD_RTU, "\x02\x2B\x0E\x01\x00\x34\x77", CARD_NOT_OURS, "");
+    ASKED("RTU, 17 to another address", CARD_RTU, "\x02\x11\xC0\xDC", CARD_NOT_OURS, "");
+
+    ASKED("ASCII, code 04, 07h", CARD_ASCII, ":012B0E0407BB\r\n", CARD_NO_ROW, ":01AB0252\r\n");
+    ASKED("ASCII, code 03", CARD_ASCII, ":012B0E0300C3\r\n", CARD_MALFORMED, ":01AB0351\r\n");
+    ASKED("ASCII, no type", CARD_ASCII, ":012BD4\r\n", CARD_MALFORMED, ":01AB0351\r\n");
+    ASKED("ASCII, type 13", CARD_ASCII, ":012B0D0100C6\r\n", CARD_UNKNOWN, ":01AB0153\r\n");
+    ASKED("ASCII, 17 too long", CARD_ASCII, ":011100EE\r\n", CARD_MALFORMED, ":0191036B\r\n");
+    ASKED("ASCII, 43 to all", CARD_ASCII, ":002B0E0100C6\r\n", CARD_NOT_OURS, "");
+    ASKED("ASCII, no type, to all", CARD_ASCII, ":002BD5\r\n", CARD_NOT_OURS, "");
+    ASKED("ASCII, type 13 to all", CARD_ASCII, ":002B0D0100C7\r\n", CARD_UNKNOWN, "");
+    ASKED("ASCII, 17 to all", CARD_ASCII, ":0011EF\r\n", CARD_NOT_OURS, "");
+}
+
+/* After a write, a fault, time and a restart the card is who it was. */
+static void identity_kept(void)
+{
+    card c = fresh(CARD_RTU), right = c;
+
+    part = "RTU, 17 after a restart";
+    right.plant[CARD_ACCEL] = 100;
+    call(ALL, CARD_RTU, &c, (const uint8_t *)"\x01\x06\x06\xDC\x00\x64\x49\x53", 8, 256, CARD_DONE, 8, TEXT("\x01\x06\x06\xDC\x00\x64\x49\x53"), &right);
+    SAME(card_raise_fault(&c, 3), CARD_DONE);
+    SAME(card_end_cause(&c, 3), CARD_DONE);
+    SAME(card_tick(&c, 51), CARD_DONE);
+    card_restart(&c);
+    call(ALL, CARD_RTU, &c, (const uint8_t *)"\x01\x11\xC0\x2C", 4, 256, CARD_DONE, 4, TEXT("\x01\x11\x10" SERIAL "\x57\x1F"), &right);
+}
+
+/* ---- register data */
 /* "The register data of a well-made 06 or 16 (CRC, length and count right, any address) is handed back as a part of the caller's frame; for other bytes, an
  * empty part." */
 static void data_at(const char *frame, size_t n, size_t from, size_t len)
@@ -433,7 +597,11 @@ int main(void)
     parity_fault();
     tick();
     silence();
+    limits();
     bytes_from_the_line();
+    identity_told();
+    identity_refused();
+    identity_kept();
     register_data();
     printf("functions: %lu numbers and bytes are as the documents say, %lu are not\n", held, wrong);
     return wrong != 0;

@@ -23,16 +23,24 @@ const PROTOCOL: usize = 0;
 const SUM: usize = 1;
 const SIOERR: usize = 2;
 
+/// The least reply buffer, by the protocol's number: NFO serial, Modbus RTU, Modbus ASCII. No reply is longer.
+const LEAST: [usize; 3] = [19, 256, 513];
+
+/// Who a card is: revision 17 bytes, model 8, serial number 16. What a `start` that names none gives is spaces.
+type Identity = [u8; 41];
+const SPACES: Identity = [b' '; 41];
+
 /// A card: its parts lie where the host puts them.
 struct Card {
     held: [u8; 512],
     len: usize,
     port: [u32; 3],
     plant: [u32; 34],
+    identity: Identity,
 }
 
 extern "C" {
-    fn card_start_in(held: &mut [u8; 512], len: &mut usize, port: &mut [u32; 3], plant: &mut [u32; 34], protocol: u32);
+    fn card_start_in(held: &mut [u8; 512], len: &mut usize, port: &mut [u32; 3], plant: &mut [u32; 34], identity: &mut Identity, protocol: u32, given: &Identity);
     fn card_restart_in(len: &mut usize, port: &mut [u32; 3], plant: &mut [u32; 34]);
     fn card_raise_fault_in(plant: &mut [u32; 34], n: u32) -> u32;
     fn card_end_cause_in(plant: &mut [u32; 34], n: u32) -> u32;
@@ -42,30 +50,37 @@ extern "C" {
     fn card_op_time_in(plant: &mut [u32; 34], word: u32) -> u32;
     fn card_parity_fault_in(port: &mut [u32; 3], plant: &mut [u32; 34]) -> u32;
     fn card_tick_in(port: &mut [u32; 3], plant: &mut [u32; 34], tenths: u32) -> u32;
-    fn card_receive_in(held: &mut [u8; 512], len: &mut usize, port: &mut [u32; 3], plant: &mut [u32; 34], bytes: *const u8, n_bytes: usize, reply: *mut u8, n_reply: usize, told: &mut [usize; 2]) -> u32;
+    fn card_receive_in(held: &mut [u8; 512], len: &mut usize, port: &mut [u32; 3], plant: &mut [u32; 34], identity: &Identity, bytes: *const u8, n_bytes: usize, reply: *mut u8, n_reply: usize, told: &mut [usize; 2]) -> u32;
     fn card_receive_nfo_in(held: &mut [u8; 512], len: &mut usize, port: &mut [u32; 3], plant: &mut [u32; 34], bytes: *const u8, n_bytes: usize, reply: *mut u8, n_reply: usize, told: &mut [usize; 2]) -> u32;
-    fn card_receive_rtu_in(held: &mut [u8; 512], len: &mut usize, port: &mut [u32; 3], plant: &mut [u32; 34], bytes: *const u8, n_bytes: usize, reply: *mut u8, n_reply: usize, told: &mut [usize; 2]) -> u32;
-    fn card_receive_ascii_in(held: &mut [u8; 512], len: &mut usize, port: &mut [u32; 3], plant: &mut [u32; 34], bytes: *const u8, n_bytes: usize, reply: *mut u8, n_reply: usize, told: &mut [usize; 2]) -> u32;
+    fn card_receive_rtu_in(held: &mut [u8; 512], len: &mut usize, port: &mut [u32; 3], plant: &mut [u32; 34], identity: &Identity, bytes: *const u8, n_bytes: usize, reply: *mut u8, n_reply: usize, told: &mut [usize; 2]) -> u32;
+    fn card_receive_ascii_in(held: &mut [u8; 512], len: &mut usize, port: &mut [u32; 3], plant: &mut [u32; 34], identity: &Identity, bytes: *const u8, n_bytes: usize, reply: *mut u8, n_reply: usize, told: &mut [usize; 2]) -> u32;
     fn card_register_data(frame: *const u8, n_frame: usize, place: &mut [usize; 2]);
 }
 
-/// The card in the host's memory, how many calls were made on it, and on which protocols.
+/// The card in the host's memory, who it was started as, how many calls were made on it, and on which protocols.
 struct Host {
     card: Card,
+    given: Identity,
     calls: usize,
     protocols: [usize; 3],
 }
 
 /// Memory that holds 5Ah throughout, with a fresh card put over it: what was there before does not count.
-fn fresh(protocol: u32) -> Card {
-    let mut card = Card { held: [0x5A; 512], len: 0x5A5A, port: [0x5A5A5A5A; 3], plant: [0x5A5A5A5A; 34] };
-    unsafe { card_start_in(&mut card.held, &mut card.len, &mut card.port, &mut card.plant, protocol) };
+fn fresh(protocol: u32, given: &Identity) -> Card {
+    let mut card = Card { held: [0x5A; 512], len: 0x5A5A, port: [0x5A5A5A5A; 3], plant: [0x5A5A5A5A; 34], identity: [0x5A; 41] };
+    unsafe { card_start_in(&mut card.held, &mut card.len, &mut card.port, &mut card.plant, &mut card.identity, protocol, given) };
     card
 }
 
 fn unhex(text: &str) -> Vec<u8> {
     let pair = |at: usize| u8::from_str_radix(&text[at..at + 2], 16).expect("hex");
     if text == "-" { Vec::new() } else { (0..text.len()).step_by(2).map(pair).collect() }
+}
+
+/// The 41 bytes of an identity, or none where it is not in capital hex or not so many.
+fn identity_of(text: &str) -> Option<Identity> {
+    let capital = |b: u8| matches!(b, b'0'..=b'9' | b'A'..=b'F');
+    if text.len() == 2 * 41 && text.bytes().all(capital) { unhex(text).try_into().ok() } else { None }
 }
 
 fn hex(bytes: &[u8]) -> String {
@@ -77,16 +92,22 @@ impl Host {
     fn receive(&mut self, bytes: &[u8], reply: &mut [u8]) -> (u32, usize, usize) {
         let mut told = [usize::MAX; 2];
         let c = &mut self.card;
-        let call = match (self.calls % 2, c.port[PROTOCOL]) {
-            (0, _) => card_receive_in,
-            (_, 1) => card_receive_rtu_in,
-            (_, 2) => card_receive_ascii_in,
-            _ => card_receive_nfo_in,
+        let protocol = c.port[PROTOCOL] as usize;
+        let (from, n, to, room) = (bytes.as_ptr(), bytes.len(), reply.as_mut_ptr(), reply.len());
+        let outcome = unsafe {
+            if self.calls % 2 == 1 && protocol == 0 {
+                // no message of NFO serial asks who the card is
+                card_receive_nfo_in(&mut c.held, &mut c.len, &mut c.port, &mut c.plant, from, n, to, room, &mut told)
+            } else {
+                let call = [card_receive_in, card_receive_rtu_in, card_receive_ascii_in][self.calls % 2 * protocol];
+                call(&mut c.held, &mut c.len, &mut c.port, &mut c.plant, &c.identity, from, n, to, room, &mut told)
+            }
         };
-        let outcome = unsafe { call(&mut c.held, &mut c.len, &mut c.port, &mut c.plant, bytes.as_ptr(), bytes.len(), reply.as_mut_ptr(), reply.len(), &mut told) };
-        assert!(told[1] <= 19, "no reply is longer than the least reply buffer");
+        assert!(told[1] <= LEAST[protocol], "no reply is longer than the least reply buffer");
+        assert!(outcome != 10 || room < LEAST[protocol], "10 is a buffer under the least");
+        assert!(c.identity == self.given, "no message changes the identity");
         self.calls += 1;
-        self.protocols[self.card.port[PROTOCOL] as usize] += 1;
+        self.protocols[protocol] += 1;
         (outcome, told[0], told[1])
     }
 
@@ -120,6 +141,15 @@ impl Host {
             [0, 0] => "-".into(),
             [from, len] => format!("{} {}", from, hex(&frame[from..from + len])),
         }
+    }
+
+    /// `start P`, by the protocol's word, or none where it is no protocol's.
+    fn start(&mut self, protocol: &str, given: Identity) -> Option<String> {
+        let number = ["nfo", "rtu", "ascii"].iter().position(|p| *p == protocol)?;
+        self.card = fresh(number as u32, &given);
+        self.given = given;
+        self.calls += 1;
+        Some("0".into())
     }
 
     /// The state line, out of the host's own memory.
@@ -156,11 +186,8 @@ impl Host {
     fn answers(&mut self, line: &str) -> Option<Vec<String>> {
         let words: Vec<&str> = line.split(' ').collect();
         let answer = match words[..] {
-            ["start", p] => {
-                self.card = fresh(["nfo", "rtu", "ascii"].iter().position(|q| *q == p).expect("protocol") as u32);
-                self.calls += 1;
-                "0".into()
-            }
+            ["start", p] => self.start(p, SPACES)?,
+            ["start", p, "identity", who] => self.start(p, identity_of(who)?)?,
             ["restart"] => {
                 let c = &mut self.card;
                 unsafe { card_restart_in(&mut c.len, &mut c.port, &mut c.plant) };
@@ -206,10 +233,10 @@ fn agree(host: &mut Host, script: &str, answers: &str) -> Result<usize, String> 
 pub extern "C" fn main(_count: i32, _words: *const *const u8) -> i32 {
     let files: Vec<String> = std::env::args().skip(1).collect();
     let read = |path: &str| std::fs::read_to_string(path).expect(path);
-    let mut host = Host { card: fresh(0), calls: 0, protocols: [0; 3] };
+    let mut host = Host { card: fresh(0, &SPACES), given: SPACES, calls: 0, protocols: [0; 3] };
     let mut agreed = 0;
     for pair in files.chunks(2) {
-        host.card = fresh(0);
+        host.start("nfo", SPACES).expect("nfo");
         match agree(&mut host, &read(&pair[0]), &read(&pair[1])) {
             Ok(n) => agreed += n,
             Err(difference) => {

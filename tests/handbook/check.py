@@ -93,6 +93,21 @@ def status():
     return differs("README.md, Status", told, sorted(numbers))
 
 
+def identity():
+    """README's objects are those of the definition, and `line` is there who the masters of the test hear."""
+    definition, masters = text("crates/identity/specs/Identity.antt"), text("tests/masters/steps.py")
+    words = {"[]": "empty", "(revision i)": "the revision, 17 bytes", "(model i)": "the model, 8 bytes"}
+    for name in ("vendorName", "productName"):
+        listed = re.search(r"^%s = (.*)$" % name, definition, re.M).group(1)
+        words[name] = "`%s`" % bytes.fromhex("".join(re.findall(r"0x([0-9A-F]{2})", listed))).decode()
+    right = ["%sh: %s" % (number, words.get(held, held)) for number, held in re.findall(r"^ +(?:∷ )?object 0x([0-9A-F]{2}) (.*)$", definition, re.M)]
+    told = ["%s: %s" % (row[0], row[2]) for row in cells("README.md", "Who are you?") if row[0].endswith("h")]
+    names = re.search(r"revision `([^`]*)`, model `([^`]*)`, serial number `([^`]*)`", text("README.md")).groups()
+    heard = re.search(r'^REVISION, MODEL, SERIAL_NUMBER = b"(.*)", b"(.*)", b"(.*)"$', masters, re.M).groups()
+    faults = differs("README.md, Who are you?", told, right) if right else ["no objects are defined"]
+    return faults + differs("README.md, who line is", list(names), list(heard))
+
+
 # ---- the promises
 def edits():
     """Each must-fail edit, as CRATE/EDIT."""
@@ -225,7 +240,7 @@ def sessions():
     return faults + ["%s shows no session" % page for page in ("README.md", "docs/BENCH.md") if page not in seen]
 
 
-CHECKS = [registers, rooms, times, outcomes, status, promises, picture_of_rooms, picture_of_the_morning, links, sessions]
+CHECKS = [registers, rooms, times, outcomes, status, identity, promises, picture_of_rooms, picture_of_the_morning, links, sessions]
 
 
 def main():

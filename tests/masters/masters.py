@@ -16,7 +16,7 @@ from concurrent.futures import ThreadPoolExecutor
 
 import steps
 from port import PATIENCE, Port
-from steps import COILS, INPUT, MANY, ONE, READ, Put
+from steps import COILS, INPUT, MANY, ONE, READ, REPORT, Put
 
 FRAMED = {"rtu": steps.rtu, "ascii": steps.ascii}
 # as the README has it: a tenth of a second of silence ends a read
@@ -114,27 +114,61 @@ class Pymodbus:
             COILS: self.client.read_coils,
         }[step.function]
         told = routine(step.register, step.asked[0] if step.function == ONE else step.asked, slave=1)
-        assert self.sent == self.letters(self.framed(b"\1" + step.request())), "pymodbus asked %s" % self.sent
-        if told.isError():
-            assert hasattr(told, "exception_code"), "pymodbus heard no reply: %s" % told
-            assert told.function_code == 0x80 | step.function, "pymodbus heard function %d" % told.function_code
+        if self.refused(step, told):
             return told.exception_code
         if step.words is not None:
             return told.registers
         assert told.address == step.register and (told.value == step.asked[0] if step.function == ONE else told.count == len(step.asked)), str(told)
         return None
 
+    def refused(self, step, told):
+        """Whether an exception was heard. What went on the line must be the request."""
+        assert self.sent == self.letters(self.framed(b"\1" + step.request())), "pymodbus asked %s" % self.sent
+        if told.isError():
+            assert hasattr(told, "exception_code"), "pymodbus heard no reply: %s" % told
+            assert told.function_code == 0x80 | step.function, "pymodbus heard function %d" % told.function_code
+        return told.isError()
+
     def close(self):
         self.client.close()
 
 
-def play(program, protocol, name, master_on, letters=bytes):
+class PymodbusIdentity(Pymodbus):
+    """The requests of pymodbus for who a card is."""
+
+    def ask(self, step):
+        from pymodbus.mei_message import ReadDeviceInformationRequest
+        from pymodbus.other_message import ReportSlaveIdRequest
+
+        self.length = len(self.framed(b"\1" + step.reply()))
+        request = ReportSlaveIdRequest(unit=1) if step.function == REPORT else ReadDeviceInformationRequest(step.code, step.first, unit=1)
+        told = self.client.execute(request)
+        if self.refused(step, told):
+            return told.exception_code
+        if step.function == REPORT:
+            # all that came is the identifier; beside it pymodbus reads the last byte as a run indicator, FFh for on, and so says off of our serial number
+            assert (told.byte_count, told.status) == (16, False), str(vars(told))
+            return told.identifier
+        head = (told.sub_function_code, told.read_code, told.conformity, told.more_follows, told.next_object_id, told.number_of_objects)
+        assert head == (14, step.code, 0x82, 0, 0, len(step.objects)), str(vars(told))
+        assert list(told.information) == step.objects, str(vars(told))  # in this order; an empty one is there, with no bytes
+        return told.information
+
+    def send(self, request):
+        """pymodbus cannot tell how long a reply to 43 is, and takes what is there after a hundredth of a second for the whole: so it is there before pymodbus looks."""
+        sent, end = super().send(request), time.monotonic() + SILENCE
+        while self.client.socket.in_waiting < self.length and time.monotonic() < end:
+            time.sleep(0.01)
+        return sent
+
+
+def play(program, protocol, name, master_on, letters=bytes, script=steps.steps):
     """Plays the steps by a master, and holds each answer, and at the end each line printed, to the documents. Whatever letters come, ours are capitals."""
     framed = FRAMED[protocol]
     asked, expected = 0, []
     with Port(program, protocol, SETTINGS[protocol]) as port:
         master = master_on(port.device)
-        for step in steps.steps(lambda body: letters(framed(body))):
+        for step in script(lambda body: letters(framed(body))):
             if isinstance(step, Put):
                 port.put(step.data)
                 port.silent(SILENCE)
@@ -201,6 +235,41 @@ def pymodbus_ascii(program):
 
     for name, letters in LETTERS.items():
         play(program, "ascii", "pymodbus on ASCII in " + name, lambda device: Pymodbus(device, ModbusAsciiFramer, steps.ascii, letters), letters)
+
+
+def identity_rtu(program):
+    if pymodbus_missing():
+        return pymodbus_missing()
+    from pymodbus.framer.rtu_framer import ModbusRtuFramer
+
+    play(program, "rtu", "pymodbus on RTU, who are you", lambda device: PymodbusIdentity(device, ModbusRtuFramer, steps.rtu), script=steps.identity)
+
+
+def identity_ascii(program):
+    if pymodbus_missing():
+        return pymodbus_missing()
+    from pymodbus.framer.ascii_framer import ModbusAsciiFramer
+
+    for name, letters in LETTERS.items():
+        who = "pymodbus on ASCII in %s, who are you" % name
+        play(program, "ascii", who, lambda device: PymodbusIdentity(device, ModbusAsciiFramer, steps.ascii, letters), letters, steps.identity)
+
+
+def identity_mbpoll(program):
+    """The serial number by libmodbus, which reads a reply to 17 as the standard has it: an id, a run indicator, and the rest. (43 it cannot ask.)"""
+    if not shutil.which("mbpoll"):
+        return "mbpoll is not on this machine and could not be installed"
+    report = steps.Report()
+    with Port(program, "rtu", SETTINGS["rtu"]) as port:
+        words = ["mbpoll", "-v", "-m", "rtu", "-a", "1", "-b", "9600", "-P", "none", "-o", "10", "-u", port.device]
+        told = subprocess.run(words, capture_output=True, text=True, timeout=PATIENCE).stdout
+        for pattern, right in ((r"\[([0-9A-F]{2})\]", report.request()), (r"<([0-9A-F]{2})>", report.reply())):
+            assert bytes.fromhex("".join(re.findall(pattern, told))) == steps.rtu(b"\1" + right), told
+        number = steps.SERIAL_NUMBER
+        for line in ("Length: 16", "Id    : 0x%02X" % number[0], "Data  : " + number[2:].decode()):
+            assert line in told.splitlines(), told
+        same_lines("libmodbus on RTU, who are you", port.lines(), [line_of(steps.rtu, report)])
+    print("masters: libmodbus on RTU, who are you: the serial number is as the documents say")
 
 
 def left_alone(program):
@@ -490,9 +559,9 @@ def main():
     if not shutil.which("socat"):
         print("masters: skipped: socat is not on this machine and could not be installed")
         return
-    # those that wait for silence do so beside the others
+    # those that mostly wait do so beside the others
     with ThreadPoolExecutor() as beside:
-        waiting = [(test, beside.submit(test, program)) for test in (left_alone, nfo_left_alone, clock_of_our_own)]
+        waiting = [(test, beside.submit(test, program)) for test in (left_alone, nfo_left_alone, clock_of_our_own, identity_rtu, identity_ascii, identity_mbpoll)]
         for test in (nfo_serial, libmodbus_rtu, pymodbus_rtu, pymodbus_ascii, two_scraps):
             told(test, test(program))
         for test, ended in waiting:

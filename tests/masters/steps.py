@@ -1,10 +1,15 @@
-"""What a Modbus master asks of a fresh card at address 1, one step after another, and what document 01 says of each."""
+"""What a Modbus master asks of a fresh card at address 1, one step after another, and what documents 01 and 02 say of each."""
 import random
 
-READ, INPUT, ONE, MANY, COILS = 3, 4, 6, 16, 1
+READ, INPUT, ONE, MANY, COILS, REPORT, IDENTIFY = 3, 4, 6, 16, 1, 17, 43
 
 # document 01's outcomes, and the exception of each
-EXCEPTION = {2: 2, 3: 2, 4: 3, 5: 4, 7: 4, 9: 1}
+EXCEPTION = {2: 2, 3: 2, 4: 3, 5: 4, 7: 4, 8: 3, 9: 1}
+
+# who `line` is, as the README has it; and the objects 00h to 06h by document 02
+REVISION, MODEL, SERIAL_NUMBER = b"Revision 02.03 PC", b"LineOnPC", b"0000000000000001"
+OBJECTS = [b"Valley Water Card", b"", REVISION, b"", b"Line card", MODEL, b""]
+BASIC, REGULAR, EXTENDED, SPECIFIC = 1, 2, 3, 4
 
 
 def register(adi):
@@ -46,6 +51,50 @@ class Step:
             return bytes([self.function, 2 * len(self.words)]) + b"".join(word.to_bytes(2, "big") for word in self.words)
         last = self.asked[0] if self.function == ONE else len(self.asked)
         return bytes([self.function]) + self.register.to_bytes(2, "big") + last.to_bytes(2, "big")
+
+
+class Identify:
+    """A request of 43, type 14, by a code and an object, and its outcome. `objects` are the numbers of those that it tells."""
+
+    function = IDENTIFY
+
+    def __init__(self, code, first, objects=(), outcome=0):
+        self.code, self.first, self.objects, self.outcome = code, first, list(objects), outcome
+
+    def __str__(self):
+        return "function 43, code %02X, object %02Xh" % (self.code, self.first)
+
+    def answer(self):
+        """What a master is to hear: the bytes of each object, or an exception's number."""
+        return EXCEPTION[self.outcome] if self.outcome else {number: OBJECTS[number] for number in self.objects}
+
+    def request(self):
+        return bytes([IDENTIFY, 14, self.code, self.first])
+
+    def reply(self):
+        """ "conformity 82h", and "All objects asked for go in one reply": no more follow """
+        if self.outcome:
+            return bytes([0x80 | IDENTIFY, EXCEPTION[self.outcome]])
+        told = [bytes([number, len(OBJECTS[number])]) + OBJECTS[number] for number in self.objects]
+        return bytes([IDENTIFY, 14, self.code, 0x82, 0, 0, len(told)]) + b"".join(told)
+
+
+class Report:
+    """A request of 17: "byte count 16, then the 16-character serial number"."""
+
+    function, outcome = REPORT, 0
+
+    def __str__(self):
+        return "function 17"
+
+    def answer(self):
+        return SERIAL_NUMBER
+
+    def request(self):
+        return bytes([REPORT])
+
+    def reply(self):
+        return bytes([REPORT, 16]) + SERIAL_NUMBER
 
 
 class Put:
@@ -111,6 +160,23 @@ def spoilt(framed):
         Put("a broadcast write", framed(write_accel(0, 75)), line="0 -"),
         reads(READ, ACCEL, [75]),
     ]
+
+
+def identity(framed):
+    """Who the card is: every object by each code, and the serial number. "with 01 up to 02h, with 02 up to 06h, from the first object named, or from 00h if that lies outside"."""
+    for code, last in ((BASIC, 2), (REGULAR, 6)):
+        for first in [*range(7), 7, 255]:
+            yield Identify(code, first, range(first if first <= last else 0, last + 1))
+    for number in range(7):
+        yield Identify(SPECIFIC, number, [number])
+    yield Identify(SPECIFIC, 7, outcome=2)
+    yield Identify(EXTENDED, 0, outcome=8)
+    yield Report()
+    # both are reads, so that one to all is outcome 1; a type other than 14 is 9, without a reply
+    yield Put("43 to all", framed(bytes([0, IDENTIFY, 14, BASIC, 0])), line="1 -")
+    yield Put("17 to all", framed(bytes([0, REPORT])), line="1 -")
+    yield Put("another type to all", framed(bytes([0, IDENTIFY, 13, BASIC, 0])), line="9 -")
+    yield Report()
 
 
 def left_alone():

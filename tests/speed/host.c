@@ -27,7 +27,8 @@ static size_t read_lines(void)
 int main(int argc, char **argv)
 {
     static const char *const names[] = { "nfo", "rtu", "ascii" };
-    uint8_t reply[CARD_REPLY_LEAST];
+    static const uint8_t identity[CARD_IDENTITY];
+    uint8_t reply[CARD_ASCII_REPLY];
     uint32_t p = 0, h = 0;
     unsigned long taken = 0;
     size_t told[2];
@@ -38,7 +39,7 @@ int main(int argc, char **argv)
     if (p == 3) return 2;
     size_t messages = read_lines(), total = messages ? end_of[messages - 1] : 0;
     long rounds = strtol(argv[2], NULL, 10);
-    card_start(&c, p);
+    card_start(&c, p, identity);
     for (long r = 0; r < rounds; r++) {
         size_t piece = 0;
         for (size_t at = 0, end = 0; at < total; at = end) {

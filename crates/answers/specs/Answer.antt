@@ -3,7 +3,7 @@ use Prim.Native.Nat.{ℕ}
 use Rattle.answers.specs.declared.Refusal.{Refusal}
 use Rattle.answers.specs.declared.Refusal.the-variants.{NoRow, ReadOnly, NotAllowed, FlagStands, Running, NotPermitted, Malformed, NoFunction}
 use Rattle.answers.specs.declared.Answer.{Answer}
-use Rattle.answers.specs.declared.Answer.the-variants.{Told, Written, NotOurs, Refused}
+use Rattle.answers.specs.declared.Answer.the-variants.{Told, Written, Identified, NotOurs, Refused}
 
 abbrev pub refusalNumber : Refusal → ℕ
 refusalNumber NoRow = 2
@@ -18,5 +18,6 @@ refusalNumber NoFunction = 9
 abbrev pub answerNumber : Answer → ℕ
 answerNumber (Told row word) = 0
 answerNumber (Written change) = 0
+answerNumber (Identified part) = 0
 answerNumber NotOurs = 1
 answerNumber (Refused refusal) = refusalNumber refusal

@@ -1,11 +1,12 @@
 // What serving a message comes to, by any protocol, and document 01's number for it.
+use identity::Part;
 use table::Row;
 ghost use mathlib.Core.Path.{_≡_};
 ghost use Rattle.answers.specs.Answer.{refusalNumber, answerNumber};
 
 // Why a message is refused: document 01's refusals 2 to 9.
 pub enum Refusal {
-    // 2: no such row or register span
+    // 2: no such row, register span or object
     NoRow,
     // 3: row is read-only
     ReadOnly,
@@ -35,6 +36,8 @@ pub enum Answer {
     Told(Row, u32),
     // 0: the row holds this word now
     Written(Change),
+    // 0: this part of the identity was told
+    Identified(Part),
     // 1: other address, or broadcast read
     NotOurs,
     // 2 to 9
@@ -67,6 +70,7 @@ impl Answer {
         match self {
             Answer::Told(_, _) => 0,
             Answer::Written(_) => 0,
+            Answer::Identified(_) => 0,
             Answer::NotOurs => 1,
             Answer::Refused(refusal) => refusal.number(),
         }

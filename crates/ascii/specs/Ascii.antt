@@ -57,8 +57,11 @@ abbrev pub ascii : Format
 ascii = record { start = 0x3A; formed = formed; viable = viable }
 
 -- the message of an address and a data unit: these bytes, with their LRC last
+abbrev pub withLrc : List ℕ → List ℕ
+withLrc body = body ++ lrcOf body ∷ []
+
 unfoldable pub asciiOf : ℕ → List ℕ → List ℕ
-asciiOf address unit = textOf ((address ∷ unit) ++ lrcOf (address ∷ unit) ∷ [])
+asciiOf address unit = textOf (withLrc (address ∷ unit))
 
 -- the address among a message's bytes, and its data unit: what is behind the address, without the LRC
 abbrev pub addressAmong : List ℕ → ℕ

@@ -1,14 +1,17 @@
 // The message of Modbus ASCII: as a format of the left-to-right reading (`specs/Ascii`), and written.
 // `put_text` writes the message of some bytes, `put_ascii` the reply of an address and an answer.
-use base::REPLY_LEAST;
+use base::ASCII_REPLY;
+use identity::Identity;
 use modbus::Answer;
 use modbus::put_body;
 ghost use mathlib.Core.Path.{_≡_};
-ghost use lib.ListN.{length};
-ghost use Rattle.base.specs.Buffers.{front, fitting};
+ghost use Prim.Native.Nat.{_<_};
+ghost use lib.ListN.{length, take, set};
+ghost use Rattle.base.specs.Buffers.{front, fitting, asciiLeast};
+ghost use Rattle.checks.specs.Lrc.{lrcOf};
 ghost use Rattle.modbus.specs.Answer.{unitOf};
 ghost use Rattle.modbus.specs.Reply.{replyIn};
-ghost use Rattle.ascii.specs.Ascii.{textOf, asciiOf};
+ghost use Rattle.ascii.specs.Ascii.{textOf, withLrc, asciiOf};
 
 // Puts the message of `bytes`, the LRC among them, at the start of `text` and tells its length. A text that is too short is left as it is, and the
 // length is 0.
@@ -27,16 +30,31 @@ pub fn put_text(bytes: &[u8], text: &mut [u8]) -> usize
     end + 2
 }
 
-// Puts the reply's message at the start of `reply` and tells its length. A buffer under 19 bytes is left as it is, and the length is 0.
-pub fn put_ascii(address: u8, answer: Answer, reply: &mut [u8]) -> usize
-    ensures count { λ r. ⌜ r ≡ length (replyIn (length (now (reply .entry))) (asciiOf address (unitOf answer))) ⌝ }
-    ensures lent { λ _. ⌜ now (reply .exit) ≡ front (replyIn (length (now (reply .entry))) (asciiOf address (unitOf answer))) (now (reply .entry)) ⌝ }
+// Puts the reply's message at the start of `reply` and tells its length. A buffer under 513 bytes is left as it is, and the length is 0. A part of the identity goes by itself, so
+// that the compiler knows how long the other replies can be.
+pub fn put_ascii(address: u8, answer: Answer, identity: &Identity, reply: &mut [u8]) -> usize
+    ensures count { λ r. ⌜ r ≡ length (replyIn asciiLeast (length (now (reply .entry))) (asciiOf address (unitOf (now (identity .entry)) answer))) ⌝ }
+    ensures lent { λ _. ⌜ now (reply .exit) ≡ front (replyIn asciiLeast (length (now (reply .entry))) (asciiOf address (unitOf (now (identity .entry)) answer))) (now (reply .entry)) ⌝ }
 {
-    if reply.len() < REPLY_LEAST {
+    if reply.len() < ASCII_REPLY {
         return 0;
     }
-    let mut bytes = [0u8; 8];
-    let end = put_body(address, answer, &mut bytes);
+    let mut bytes = [0u8; 80];
+    if let Answer::Identity(_) = answer {
+        let long = put_body(address, answer, identity, &mut bytes);
+        return seal(long, &mut bytes, reply);
+    }
+    let end = put_body(address, answer, identity, &mut bytes);
+    seal(end, &mut bytes, reply)
+}
+
+// Puts the LRC behind the body, which ends at `end`, and the message of these bytes at the start of `reply`, where it fits.
+fn seal(end: usize, bytes: &mut [u8], reply: &mut [u8]) -> usize
+    requires { ⌜ end < length (now bytes) ⌝ }
+    ensures count { λ r. ⌜ r ≡ length (fitting (textOf (withLrc (take end (now (bytes .entry))))) (length (now (reply .entry)))) ⌝ }
+    ensures body { λ _. ⌜ now (bytes .exit) ≡ set (now (bytes .entry)) end (lrcOf (take end (now (bytes .entry)))) ⌝ }
+    ensures lent { λ _. ⌜ now (reply .exit) ≡ front (fitting (textOf (withLrc (take end (now (bytes .entry))))) (length (now (reply .entry)))) (now (reply .entry)) ⌝ }
+{
     bytes[end] = checks::lrc(&bytes[0..end]);
     let all = end + 1;
     put_text(&bytes[0..all], reply)

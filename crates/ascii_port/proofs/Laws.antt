@@ -4,8 +4,9 @@ use mathlib.Core.List.{List}
 use Prim.Native.Nat.{ℕ, _-_, _≤_, _<_}
 use native.Mathlib.Omega.{arith}
 use lib.ListN.{length, take, drop, length-append}
-use Rattle.base.specs.Buffers.{front, replyLeast}
+use Rattle.base.specs.Buffers.{front, asciiLeast}
 use Rattle.base.proofs.Sets.{take-front}
+use Rattle.identity.specs.Identity.{Identity}
 use Rattle.pending.specs.Scanning.{scanIn}
 use Rattle.pending.specs.declared.Scanned.{Scanned}
 use Rattle.pending.specs.Held.{held}
@@ -28,13 +29,13 @@ use Rattle.turn.proofs.Laws.{Does, after-in, streamed-used, streamed-uses, stre
 use Rattle.ascii_port.specs.Receive.{exchangeOn, replyText, answeredBy, asciiStream, asciiReceived}
 
 -- ---- a message's bytes are served: the plant and the port are `p′` and `q′` then, and the port `q″` after the message
-module _ (held : List ℕ) (q q′ q″ : Numbers) (p p′ : Plant) (scan : Scanned) (message unit : List ℕ) (address : ℕ) (e : Exchange) (n : ℕ) (out before : List ℕ)
+module _ (held : List ℕ) (q q′ q″ : Numbers) (p p′ : Plant) (i : Identity) (scan : Scanned) (message unit : List ℕ) (address : ℕ) (e : Exchange) (n : ℕ) (out before : List ℕ)
     (from : address ≡ addressAmong message) (has : unit ≡ unitAmong message) (serves : exchangedIn p′ q′ e ≡ exchanged p q address unit)
     (leaves : q″ ≡ portAfter (e .answer) q′)
-    (puts : (n ≡ length (replyText address (e .reply))) × (out ≡ front (replyText address (e .reply)) before)) where
-  pub answers : Does (turnIn held q″ p′ (record { pending = 0; outcome = Outcomes.Served (e .answer); used = scan .used; len = n })) out
-      (answeredBy (cardOf held (scan .len) q p) (scanIn held scan) message) before
-  answers = rw (← has, ← from, ← serves, puts .0, after-in held (scan .len) q″ (exchangedIn p′ q′ e .served) leaves) (refl, puts .1)
+    (puts : (n ≡ length (replyText i address (e .reply))) × (out ≡ front (replyText i address (e .reply)) before)) where
+  pub answers : Does (turnIn held q″ p′ i (record { pending = 0; outcome = Outcomes.Served (e .answer); used = scan .used; len = n })) out
+      (answeredBy (cardOf held (scan .len) q p i) (scanIn held scan) message) before
+  answers = rw (← has, ← from, ← serves, puts .0, after-in i held (scan .len) q″ (exchangedIn p′ q′ e .served) leaves) (refl, puts .1)
 
 -- ---- they are decoded from the text that is held
 module _ (text : List ℕ) (n : ℕ) (m before : List ℕ) (decodes : (n ≡ length (bytesIn text)) × (m ≡ front (bytesIn text) before)) where
@@ -46,26 +47,26 @@ module _ (text : List ℕ) (n : ℕ) (m before : List ℕ) (decodes : (n ≡ len
   decoded = let k : n - 0 ≡ length (bytesIn text) = omega (arith, decodes .0) in rw (k, decodes .1) (take-front (bytesIn text) before)
 
 -- a message is taken
-pub takes : (array : List ℕ) (q : Numbers) (p : Plant) (scan : Scanned) (message : List ℕ) (r : Turn) (out before : List ℕ) → message ≡ bytesIn (take (scan .len) array)
-    → Does r out (answeredBy (cardOf array (scan .len) q p) (scanIn array scan) message) before
-    → Does r out (taken asciiStream (cardOf array (scan .len) q p) (scanIn array scan)) before
+pub takes : (array : List ℕ) (q : Numbers) (p : Plant) (i : Identity) (scan : Scanned) (message : List ℕ) (r : Turn) (out before : List ℕ) → message ≡ bytesIn (take (scan .len) array)
+    → Does r out (answeredBy (cardOf array (scan .len) q p i) (scanIn array scan) message) before
+    → Does r out (taken asciiStream (cardOf array (scan .len) q p i) (scanIn array scan)) before
 unfolding held
-takes array q p scan message r out before e d = rw (← e) d
+takes array q p i scan message r out before e d = rw (← e) d
 
--- ---- what a caller may count on: the bytes used are there, one at least is used, and a reply has 19 bytes at most
-text-short : (address : ℕ) (said : Reply) → length (replyText address said) ≤ replyLeast
-text-short address Nothing = omega arith
-text-short address (Data answer) = Replies.ascii-short address answer
+-- ---- what a caller may count on: the bytes used are there, one at least is used, and a reply has 151 bytes at most
+text-short : (i : Identity) (address : ℕ) (said : Reply) → length (replyText i address said) ≤ 151
+text-short i address Nothing = omega arith
+text-short i address (Data answer) = Replies.ascii-short address i answer
 
 module _ (c : Card) (bytes : List ℕ) (room : ℕ) where
   pub ascii-used : asciiReceived c bytes room .used ≤ length bytes
   unfolding asciiReceived
   ascii-used = streamed-used asciiStream c bytes room
 
-  pub ascii-uses : replyLeast ≤ room → 0 < length bytes → 0 < asciiReceived c bytes room .used
+  pub ascii-uses : asciiLeast ≤ room → 0 < length bytes → 0 < asciiReceived c bytes room .used
   unfolding asciiReceived
   ascii-uses = streamed-uses asciiStream c bytes room
 
-  pub ascii-short : length (asciiReceived c bytes room .reply) ≤ replyLeast
+  pub ascii-short : length (asciiReceived c bytes room .reply) ≤ 151
   unfolding asciiReceived
-  ascii-short = streamed-short asciiStream c bytes room replyLeast (λ scan. text-short (addressAmong (bytesIn (held (scan .pending)))) (exchangeOn c (bytesIn (held (scan .pending))) .reply))
+  ascii-short = streamed-short asciiStream c bytes room 151 (λ scan. text-short (c .identity) (addressAmong (bytesIn (held (scan .pending)))) (exchangeOn c (bytesIn (held (scan .pending))) .reply))

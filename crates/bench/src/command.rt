@@ -1,13 +1,14 @@
-// What a line of up to three words says: a command with its numbers, and beside it the bytes that HEX spells.
+// What a line of up to four words says: a command with its numbers, and beside it the bytes that HEX spells.
 use bench_words::Number;
 use bench_words::Short;
 use bench_words::Spelling;
 use card::Protocol;
 use protocols::Named;
 
-// A command. Where it has a HEX, its last number tells how many bytes that spells; the first of `Call` is the buffer's size.
+// A command. Where it has a HEX, its last number tells how many bytes that spells; the first of `Call` is the buffer's size. The HEX of `StartAs` is an identity.
 pub(crate) enum Command {
     Start(Protocol),
+    StartAs(Protocol),
     Restart,
     Bytes(usize),
     Call(usize, usize),
@@ -50,6 +51,23 @@ fn start(word: &[u8]) -> Command {
         return Command::NotACommand;
     };
     Command::Start(protocol)
+}
+
+// `start P identity HEX`: HEX spells an identity
+fn start_as(word: &[u8], option: &[u8], hex: &[u8], bytes: &mut [u8]) -> Command {
+    let Named::Protocol(protocol) = protocols::protocol_of(word) else {
+        return Command::NotACommand;
+    };
+    let Spelling::Bytes(n) = bench_words::spelt(hex, bytes) else {
+        return Command::NotACommand;
+    };
+    if n != 41 {
+        return Command::NotACommand;
+    }
+    if check::same(option, b"identity") {
+        return Command::StartAs(protocol);
+    }
+    Command::NotACommand
 }
 
 // `din1 0`, `din1 1`
@@ -166,6 +184,19 @@ fn with_two(name: &[u8], first: &[u8], word: &[u8], bytes: &mut [u8]) -> Command
     Command::NotACommand
 }
 
+// A name with three words after it.
+fn with_three(line: &[u8], bytes: &mut [u8]) -> Command {
+    if check::same(bench_words::word(line, 0), b"start") {
+        return start_as(
+            bench_words::word(line, 1),
+            bench_words::word(line, 2),
+            bench_words::word(line, 3),
+            bytes,
+        );
+    }
+    Command::NotACommand
+}
+
 // The command that the line is. The bytes of its HEX stand at the start of `bytes`.
 pub(crate) fn parse(line: &[u8], bytes: &mut [u8]) -> Command {
     match bench_words::count(line) {
@@ -181,6 +212,7 @@ pub(crate) fn parse(line: &[u8], bytes: &mut [u8]) -> Command {
             bench_words::word(line, 2),
             bytes,
         ),
+        4 => with_three(line, bytes),
         _ => Command::NotACommand,
     }
 }

@@ -7,6 +7,8 @@ use card::After;
 use card::Card;
 use card::Protocol;
 use drive::Measured;
+use identity::BLANK;
+use identity::Identity;
 
 // The answer to what is no command.
 pub(crate) fn unknown() {
@@ -150,12 +152,25 @@ fn hear(protocol: Protocol, reply: &[u8]) {
     }
 }
 
+// The identity at the start of the bytes.
+fn identity_in(spelt: &[u8]) -> Identity {
+    let mut identity = BLANK;
+    if 41 <= spelt.len() {
+        bytes::copy(&spelt[0..41], &mut identity);
+    }
+    identity
+}
+
 // Does a command, whose bytes stand at the start of `buffer`.
 fn perform(card: Card, command: Command, buffer: &[u8]) -> Card {
     match command {
         Command::Start(protocol) => {
             outcome(0);
-            Card::start(protocol)
+            Card::start(protocol, BLANK)
+        }
+        Command::StartAs(protocol) => {
+            outcome(0);
+            Card::start(protocol, identity_in(buffer))
         }
         Command::Restart => {
             outcome(0);
@@ -183,10 +198,18 @@ fn perform(card: Card, command: Command, buffer: &[u8]) -> Card {
     }
 }
 
+// Whether a line is for the master: it has four words or more, and does not start a card.
+fn asks_master(line: &[u8]) -> bool {
+    if bench_words::count(line) <= 3 {
+        return false;
+    }
+    !check::same(bench_words::word(line, 0), b"start")
+}
+
 // Does the command of a line, and prints its answer.
 pub(crate) fn answer(card: Card, line: &[u8]) -> Card {
     let mut buffer = [0u8; 1350];
-    if 3 < bench_words::count(line) {
+    if asks_master(line) {
         bench_master::ask(line);
         return card;
     }

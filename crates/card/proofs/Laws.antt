@@ -6,6 +6,7 @@ use borrow.Author.Tests.{lt-ltb, le-ltb, eq-eqb, ne-eqb}
 use lib.Bits.{bitOr}
 use lib.ListN.{getD}
 use Rattle.table.specs.Names.{SioTot}
+use Rattle.identity.specs.Identity.{Identity}
 use Rattle.port.specs.Port.{Numbers, TimeOut, Parity, sum, sioerr, withSum, withSioerr, fresh}
 use Rattle.drive.specs.Plant.{Plant}
 use Rattle.drive.specs.Plant as Plants
@@ -21,13 +22,13 @@ use Rattle.card.specs.declared.outcome.Outcome.{Outcome}
 use Rattle.card.specs.declared.outcome.Outcome.the-variants.{Done, NoSuchEvent}
 
 -- ---- the parts of the state, each as its routine made it
-pub started-of : (protocol : Protocol) (q p : Plant) (held : Pending) → p ≡ Plants.started → held ≡ Held.empty → q ≡ fresh (protocolNumber protocol)
-    → _≡_ {A = Card} (record { port = record { pending = held; numbers = q }; plant = p }) (started protocol)
+pub started-of : (protocol : Protocol) (i : Identity) (q p : Plant) (held : Pending) → p ≡ Plants.started → held ≡ Held.empty → q ≡ fresh (protocolNumber protocol)
+    → _≡_ {A = Card} (record { port = record { pending = held; numbers = q }; plant = p; identity = i }) (started protocol i)
 unfolding started
-started-of protocol q p held a b d = rw (a, b, d)
+started-of protocol i q p held a b d = rw (a, b, d)
 
 pub restarted-of : (c : Card) (q p : Plant) (held : Pending) → p ≡ Plants.restarted (c .plant) → held ≡ Held.emptied (c .port .pending) → q ≡ fresh (protocolOf c)
-    → record { port = record { pending = held; numbers = q }; plant = p } ≡ restarted c
+    → record { port = record { pending = held; numbers = q }; plant = p; identity = c .identity } ≡ restarted c
 unfolding restarted
 restarted-of c q p held a b d = rw (a, b, d)
 

@@ -15,7 +15,7 @@ ghost use mathlib.Core.Path.{_≡_};
 ghost use Prim.Native.Nat.{_+_};
 ghost use Rattle.port.specs.Port.{Parity};
 ghost use Rattle.card.specs.State.{withPlant, withCore};
-ghost use Rattle.card.specs.Events.{happened, eventOutcome, eventOn, faultRaised, causeEnded, din1Set, measuredSet, parityTold, portFaulted, counted, tickedIn, ticked};
+ghost use Rattle.card.specs.Events.{eventOutcome, faultRaised, causeEnded, din1Set, measuredSet, parityTold, portFaulted, counted, tickedIn, ticked};
 
 // The card after an event, and the event's outcome.
 pub struct After {
@@ -173,15 +173,17 @@ impl Card {
         card
     }
 
-    // The card with other numbers in its port, and another plant: the bytes pending stay.
+    // The card with other numbers in its port, and another plant: the bytes pending and the identity stay.
     fn with_core(self, numbers: Numbers, plant: Plant) -> Card
         ensures { λ r. ⌜ r ≡ withCore (record { port = numbers; plant = plant }) self ⌝ }
     {
         let port = self.port;
         let pending = port.pending;
+        let identity = self.identity;
         Card {
             port: Port { pending, numbers },
             plant,
+            identity,
         }
     }
 }

@@ -1,5 +1,6 @@
 // The state, at start and after a restart.
 use drive::Plant;
+use identity::Identity;
 use pending::Pending;
 use port::Numbers;
 use port::PROTOCOL;
@@ -21,11 +22,12 @@ pub struct Port {
     pub numbers: Numbers,
 }
 
-// The whole state: a plant behind a port. Every bit pattern is a card.
+// The whole state: a plant behind a port, and who it is. Every bit pattern is a card.
 #[repr(C)]
 pub struct Card {
     pub port: Port,
     pub plant: Plant,
+    pub identity: Identity,
 }
 
 fn number_of(protocol: Protocol) -> u32
@@ -53,9 +55,9 @@ pub fn restarted_port(port: Numbers) -> Numbers
 }
 
 impl Card {
-    // A card at start: the table's start words, DIN1 inactive, no cause, nothing pending.
-    pub fn start(protocol: Protocol) -> Card
-        ensures { λ r. ⌜ r ≡ started protocol ⌝ }
+    // A card at start, with this identity: the table's start words, DIN1 inactive, no cause, nothing pending.
+    pub fn start(protocol: Protocol, identity: Identity) -> Card
+        ensures { λ r. ⌜ r ≡ started protocol identity ⌝ }
     {
         Card {
             port: Port {
@@ -63,16 +65,18 @@ impl Card {
                 numbers: fresh_port(protocol),
             },
             plant: drive::start(),
+            identity,
         }
     }
 
-    // The card after a restart: the settings, DIN1, causes and measured numbers are kept, nothing is pending, and MbAdr counts from now on.
+    // The card after a restart: the settings, DIN1, causes, measured numbers and the identity are kept, nothing is pending, and MbAdr counts from now on.
     pub fn restart(self) -> Card
         ensures { λ r. ⌜ r ≡ restarted self ⌝ }
     {
         let port = self.port;
         let held = port.pending;
         let numbers = port.numbers;
+        let identity = self.identity;
         let mut plant = self.plant;
         drive::restart(&mut plant);
         Card {
@@ -81,6 +85,7 @@ impl Card {
                 numbers: restarted_port(numbers),
             },
             plant,
+            identity,
         }
     }
 }

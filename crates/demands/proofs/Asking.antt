@@ -2,12 +2,11 @@
 use mathlib.Core.Path.{_≡_, refl, sym, ap, _∙_}
 use mathlib.Core.Bool.{true, false}
 use mathlib.Core.List.{List, []}
-use Prim.Native.Nat.{ℕ, _+_, _≤_, _<_}
+use Prim.Native.Nat.{ℕ, _+_, _<_}
 use native.Mathlib.Omega.{arith}
 use borrow.Author.Tests.{eq-eqb, ne-eqb}
 use lib.Dec.{eqb}
 use lib.ListN.{length, getD}
-use Rattle.base.specs.Buffers.{replyLeast}
 use Rattle.base.proofs.Tests.{either-right}
 use Rattle.stream.specs.Reading.{waiting, taking}
 use Rattle.stream.proofs.Reading.{empty-viable}
@@ -47,8 +46,9 @@ use Rattle.master_request.specs.Ask.{requestUnit}
 use Rattle.master_request.specs.Said.{requestSaid}
 use Rattle.master_reply.specs.Told.{Within}
 use Rattle.master_ascii.proofs.RoundTrip as Texts
-use Rattle.demands.specs.Calls.{Wire, nfoSerial, modbusAscii, Speaks, besides}
+use Rattle.demands.specs.Calls.{LongEnough, Wire, nfoSerial, modbusAscii, Speaks, besides}
 use Rattle.demands.specs.Kept.{Sound}
+use Rattle.demands.specs.Demand1.{TakesIt}
 use Rattle.demands.specs.Effects.{row, AsksRow, to-0, to-SiAdr, rtu, ascii, Tells}
 use Rattle.demands.proofs.Streamed.{Streamed, nfo-streamed, ascii-streamed}
 use Rattle.demands.proofs.OneCall.{takes-it}
@@ -56,13 +56,18 @@ use Rattle.demands.proofs.Taking.{reads-alone}
 use Rattle.demands.proofs.Demand2.{requests}
 
 -- ---- a whole message, handed over in one call
-module _ (P : Wire) (S : Stream) (H : Streamed P S) (c : Card) (speaks : Speaks P c) (m : List ℕ) (w : P .format .formed m ≡ true) (room : ℕ) (h : replyLeast ≤ room) where
-  pub whole-outcome : received (besides c) m room .outcome ≡ Outcomes.Served (P .served c m .answer)
+module _ (P : Wire) (S : Stream) (H : Streamed P S) (c : Card) (speaks : Speaks P c) (m : List ℕ) (w : P .format .formed m ≡ true) (room : ℕ) (h : LongEnough c room) where
+  whole : TakesIt P (besides c) (record { place = 0; bytes = m }) (received (besides c) m room)
   unfolding held empty
-  whole-outcome =
+  whole =
       takes-it P S H (besides c) speaks (refl, empty-viable (P .format) (H .lawful)) m room h (taking 0 m (waiting (0 + length m) []))
-      (reads-alone (P .format) (H .lawful) (H .theory) m w) (record { place = 0; bytes = m }) [] refl .outcome
-      ∙ ap (λ s. Outcomes.Served (s .answer)) (sym (H .alone c m .0))
+      (reads-alone (P .format) (H .lawful) (H .theory) m w) (record { place = 0; bytes = m }) [] refl
+
+  pub whole-outcome : received (besides c) m room .outcome ≡ Outcomes.Served (P .served c m .answer)
+  whole-outcome = whole .outcome ∙ ap (λ s. Outcomes.Served (s .answer)) (sym (H .alone c m .0))
+
+  pub whole-reply : received (besides c) m room .reply ≡ P .reply c m
+  whole-reply = whole .reply ∙ sym (H .alone c m .1)
 
 -- ---- a message that asks for a row tells it
 module _ (p : Plant) (q : Numbers) (n : ℕ) where
@@ -104,7 +109,7 @@ module _ (c : Card) (sound : Sound c) (n : ℕ) where
   q = c .port .numbers
 
   by-enquiry : (address e : ℕ) → protocolOf c ≡ 0 → enquirable address ≡ true → e < 65536 → Nfo.toUs p (address + 32) ≡ true → rowOfE e ≡ row n
-      → (room : ℕ) → replyLeast ≤ room → received (besides c) (enquiryOf address e) room .outcome ≡ Outcomes.Served (tale p q n)
+      → (room : ℕ) → LongEnough c room → received (besides c) (enquiryOf address e) room .outcome ≡ Outcomes.Served (tale p q n)
   by-enquiry address e speaks can h us k room l =
       whole-outcome nfoSerial nfoStream nfo-streamed c speaks (enquiryOf address e) (enquiry-formed address e (omega (arith, enquirable-is address can))) room l
       ∙ ap (λ m. Outcomes.Served (Nfo.served p q m .answer)) (enquiry-heard address e h) ∙ ap Outcomes.Served (enquiry-told p q n (address + 32) e us k)

@@ -63,7 +63,7 @@ module _ (q : Numbers) (three : length q ≡ 3) where
 
 -- ---- a row was written
 module _ (c : Card) (sound : Sound c) (d : Card) (then : Sound d) (row w : ℕ) (low : row ≤ SCMD) (plant : d .plant ≡ applied row w (c .plant))
-    (port : d .port .numbers ≡ withSum 0 (c .port .numbers)) where
+    (port : d .port .numbers ≡ withSum 0 (c .port .numbers)) (who : d .identity ≡ c .identity) where
   abbrev p : Plant
   p = c .plant
 
@@ -109,6 +109,7 @@ module _ (c : Card) (sound : Sound c) (d : Card) (then : Sound d) (row w : ℕ) 
               station = number-stays Station (omega arith);
               din1 = number-stays DIN1 (omega arith);
               causes = number-stays Causes (omega arith);
+              identity = who;
             };
         flags = number-stays Flags (omega arith);
         sum = ap sum port ∙ sum-0 q (sound .numbers);
@@ -116,7 +117,7 @@ module _ (c : Card) (sound : Sound c) (d : Card) (then : Sound d) (row w : ℕ) 
 
 -- ---- the broadcast stop
 module _ (c : Card) (sound : Sound c) (d : Card) (then : Sound d) (only-one : flags (c .plant) ≡ only 14) (plant : d .plant ≡ stopped (c .plant))
-    (port : d .port .numbers ≡ withSum 0 (withSioerr 0 (c .port .numbers))) (serial : protocolOf c ≡ 0) where
+    (port : d .port .numbers ≡ withSum 0 (withSioerr 0 (c .port .numbers))) (who : d .identity ≡ c .identity) (serial : protocolOf c ≡ 0) where
   abbrev p₀ : Plant
   p₀ = c .plant
 
@@ -172,16 +173,18 @@ module _ (c : Card) (sound : Sound c) (d : Card) (then : Sound d) (only-one : fl
               station = at-stop Station (λ e. absurd (omega (arith, e)));
               din1 = at-stop DIN1 (λ e. absurd (omega (arith, e)));
               causes = at-stop Causes (λ e. absurd (omega (arith, e)));
+              identity = who;
             };
         flags = ap flags plant ∙ flags-0;
         sum = ap sum port ∙ sum-0 (withSioerr 0 q₀) (length-set q₀ Sioerr 0 ∙ sound .numbers);
       }
 
 -- ---- a row was told
-besides-same : (c d : Card) → d .plant ≡ c .plant → d .port .numbers ≡ c .port .numbers → besides d ≡ besides c
-besides-same c d e f = rw (e, f)
+besides-same : (c d : Card) → d .plant ≡ c .plant → d .port .numbers ≡ c .port .numbers → d .identity ≡ c .identity → besides d ≡ besides c
+besides-same c d e f g = rw (e, f, g)
 
-module _ (c d : Card) (n : ℕ) (plant : d .plant ≡ told (c .plant) (c .port .numbers) n .plant) (port : d .port .numbers ≡ withSum 0 (told (c .plant) (c .port .numbers) n .port)) where
+module _ (c d : Card) (n : ℕ) (plant : d .plant ≡ told (c .plant) (c .port .numbers) n .plant) (port : d .port .numbers ≡ withSum 0 (told (c .plant) (c .port .numbers) n .port))
+    (who : d .identity ≡ c .identity) where
   -- any other read changes neither the plant nor the port
   told-keeps : n ≢ Inv-St-ack → n ≢ SioErr → (told (c .plant) (c .port .numbers) n .plant ≡ c .plant) × (told (c .plant) (c .port .numbers) n .port ≡ c .port .numbers)
   unfolding told
@@ -192,17 +195,17 @@ module _ (c d : Card) (n : ℕ) (plant : d .plant ≡ told (c .plant) (c .port .
   unfolding acknowledged without14
   read-leaves =
       record {
-        others = λ a s. let k = told-keeps a s in besides-same (cardSum 0 c) d (plant ∙ k .0) (port ∙ ap (withSum 0) (k .1));
+        others = λ a s. let k = told-keeps a s in besides-same (cardSum 0 c) d (plant ∙ k .0) (port ∙ ap (withSum 0) (k .1)) who;
         acknowledged = λ e.
             let t : told (c .plant) (c .port .numbers) n ≡ _ = ap (told (c .plant) (c .port .numbers)) e ∙ tells-ack (c .plant) (c .port .numbers) in (
               bitAnd (flags (c .plant)) (bitOr (causes (c .plant)) (only 14)),
-              besides-same (flaggedWith (bitAnd (flags (c .plant)) (bitOr (causes (c .plant)) (only 14))) c) d (plant ∙ ap (λ (x : Told). x .plant) t) (port ∙ ap (λ (x : Told). withSum 0 (x .port)) t),
+              besides-same (flaggedWith (bitAnd (flags (c .plant)) (bitOr (causes (c .plant)) (only 14))) c) d (plant ∙ ap (λ (x : Told). x .plant) t) (port ∙ ap (λ (x : Told). withSum 0 (x .port)) t) who,
               λ k l. masks .common k _ _ ∙ ap (both (flagged k (flags (c .plant)))) (put-in (causes (c .plant)) 14 k (omega arith) l),
             );
         zeroed = λ e.
             let t : told (c .plant) (c .port .numbers) n ≡ _ = ap (told (c .plant) (c .port .numbers)) e ∙ tells-sioerr (c .plant) (c .port .numbers) in (
               bitAnd (flags (c .plant)) (allBut 14),
-              besides-same (flaggedWith (bitAnd (flags (c .plant)) (allBut 14)) (sioErrZeroed c)) d (plant ∙ ap (λ (x : Told). x .plant) t) (port ∙ ap (λ (x : Told). withSum 0 (x .port)) t),
+              besides-same (flaggedWith (bitAnd (flags (c .plant)) (allBut 14)) (sioErrZeroed c)) d (plant ∙ ap (λ (x : Told). x .plant) t) (port ∙ ap (λ (x : Told). withSum 0 (x .port)) t) who,
               λ k l. taken-out (flags (c .plant)) 14 k (omega arith) l,
             );
       }

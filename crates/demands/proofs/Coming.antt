@@ -7,7 +7,7 @@ use Prim.Native.Nat.{ℕ, _≤_}
 use native.Mathlib.Omega.{arith}
 use borrow.Author.Tests.{eqb-false}
 use lib.Dec.{eqb, ltb}
-use Rattle.base.specs.Buffers.{replyLeast}
+use Rattle.base.specs.Buffers.{rtuLeast}
 use Rattle.base.proofs.Tests.{pick-both}
 use Rattle.answers.specs.declared.Answer.{Answer}
 use Rattle.answers.specs.Answer.{answerNumber}
@@ -39,7 +39,7 @@ pub record CameOf (c : Card) (x : Answer) (r : Received) : Type 0 where
   pub served : Served
   pub came : Came (c .plant) (c .port .numbers) nfo served
   pub answer : served .answer ≡ x
-  pub card : r .card ≡ cardAfter pending served
+  pub card : r .card ≡ cardAfter (c .identity) pending served
 
 abbrev Comes : Card → Answer → Received → Type 0
 Comes c x r = r .outcome ≡ Outcomes.Served x → CameOf c x r
@@ -53,7 +53,7 @@ module _ (c : Card) (bytes : List ℕ) (room : ℕ) (x : Answer) where
       → Comes c x (streamed S c bytes room)
   unfolding waiting
   stream-comes S nfo serial came =
-      pick-both (Comes c x) (ltb room replyLeast) (λ _ e. absurd (no-message _ x (omega arith) e))
+      pick-both (Comes c x) (ltb room (S .least)) (λ _ e. absurd (no-message _ x (omega arith) e))
       (λ _. pick-both (Comes c x) (scanFrom (S .feeding) (c .port .pending) 0 bytes .taken)
       (λ _ e.
       let h : Pending = scanFrom (S .feeding) (c .port .pending) 0 bytes .pending in
@@ -63,7 +63,7 @@ module _ (c : Card) (bytes : List ℕ) (room : ℕ) (x : Answer) where
   rtu-comes : Comes c x (rtuReceived c bytes room)
   unfolding rtuReceived exchanged
   rtu-comes =
-      pick-both (Comes c x) (ltb room replyLeast) (λ _ e. absurd (no-message _ x (omega arith) e))
+      pick-both (Comes c x) (ltb room rtuLeast) (λ _ e. absurd (no-message _ x (omega arith) e))
       (λ _. pick-both (Comes c x) (frameHolds bytes)
       (λ _ e.
       record {

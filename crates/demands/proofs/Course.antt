@@ -6,7 +6,6 @@ use Prim.Native.Nat.{ℕ, suc, _+_, _≤_}
 use native.Mathlib.Omega.{arith}
 use borrow.Author.Tests.{le-ltb}
 use lib.ListN.{drop}
-use Rattle.base.specs.Buffers.{replyLeast}
 use Rattle.base.specs.Choice.{pick}
 use Rattle.base.proofs.Tests.{pick-both}
 use Rattle.pending.specs.declared.Pending.{Pending}
@@ -18,13 +17,13 @@ use Rattle.card.specs.State.{protocolOf, withPending}
 use Rattle.turn.specs.Turn.{Received, waiting, cardAfter, answered}
 use Rattle.turn.specs.Stream.{Stream, byScan, streamed}
 use Rattle.receive.specs.Receive.{received}
-use Rattle.demands.specs.Calls.{Wire, Course, Calls, over, call, Speaks, adding, ended}
+use Rattle.demands.specs.Calls.{LongEnough, Wire, Course, Calls, over, call, Speaks, adding, ended}
 use Rattle.demands.proofs.Serving.{after-speaks}
 
 module _ (S : Stream) where
   -- what the card makes of the message that q holds
   abbrev pub one : Card → Pending → Received
-  one c q = answered q 0 (S .served c q) (S .reply c q)
+  one c q = answered (c .identity) q 0 (S .served c q) (S .reply c q)
 
   -- one byte after the other
   unfoldable pub course : Card → List ℕ → Course
@@ -94,9 +93,9 @@ module _ (S : Stream) where
 
     -- ---- THE CALLS: whatever they are, what comes of the stream is its course
     module _ (P : Wire) (calls : (c : Card) (x : List ℕ) (room : ℕ) → Speaks P c → received c x room ≡ streamed S c x room)
-        (speaks : (c : Card) (q : Pending) → protocol (S .served c q .port) ≡ protocolOf c) where
-      called : (c : Card) (x : List ℕ) (room : ℕ) → Speaks P c → replyLeast ≤ room → received c x room ≡ scanOf c x
-      called c x room p h = calls c x room p ∙ simp (le-ltb room replyLeast h)
+        (enough : (c : Card) (room : ℕ) → Speaks P c → LongEnough c room → S .least ≤ room) (speaks : (c : Card) (q : Pending) → protocol (S .served c q .port) ≡ protocolOf c) where
+      called : (c : Card) (x : List ℕ) (room : ℕ) → Speaks P c → LongEnough c room → received c x room ≡ scanOf c x
+      called c x room p h = calls c x room p ∙ simp (le-ltb room (S .least) (enough c room p h))
 
       -- a call leaves the port's protocol as it is
       keeps : (c : Card) (scan : Scan) → protocolOf (byScan S c scan .card) ≡ protocolOf c
@@ -105,7 +104,7 @@ module _ (S : Stream) where
           let s = S .served c (scan .pending) in
           pick-both (λ (r : Received). protocolOf (r .card) ≡ protocolOf c) (scan .taken) (λ e. after-speaks (s .answer) (s .port) ∙ speaks c (scan .pending)) (λ e. refl)
 
-      still : (c : Card) (x : List ℕ) (room : ℕ) → Speaks P c → replyLeast ≤ room → Speaks P (received c x room .card)
+      still : (c : Card) (x : List ℕ) (room : ℕ) → Speaks P c → LongEnough c room → Speaks P (received c x room .card)
       still c x room p h = ap (λ (r : Received). protocolOf (r .card)) (called c x room p h) ∙ keeps c (scanFrom (S .feeding) (c .port .pending) 0 x) ∙ p
 
       pub calls-course : {c : Card} {s : List ℕ} {k : Course} → Speaks P c → Calls c s k → k ≡ course c s

@@ -15,7 +15,7 @@ use Rattle.base.proofs.Sets.{fitting-none}
 use Rattle.table.specs.Names.{SioTot}
 use Rattle.drive.specs.Plant.{Plant}
 use Rattle.drive.specs.Events.{isFault, event, raised, ended}
-use Rattle.card.specs.State.{Core, coreOf, withCore, withPlant}
+use Rattle.card.specs.State.{Core, coreOf, protocolOf, withCore, withPlant}
 use Rattle.card.specs.Events.{eventOutcome, eventOn, faultRaised, causeEnded, din1Set, measuredSet, parityTold, counted, Ticked, tickedIn, ticked}
 use Rattle.card.specs.Outcome.{outcomeNumber}
 use Rattle.card.specs.declared.state.Card.{Card}
@@ -37,14 +37,14 @@ use Rattle.demands.proofs.Hearing.{hearing}
 
 -- ---- calls
 reply-fits : (c : Card) (bytes : List ℕ) (room : ℕ) → length (received c bytes room .reply) ≤ room
-reply-fits c bytes room = go (ltb room replyLeast) refl
+reply-fits c bytes room = go (ltb room (replyLeast (protocolOf c))) refl
   where
-    go : (t : Bool) → ltb room replyLeast ≡ t → length (received c bytes room .reply) ≤ room
+    go : (t : Bool) → ltb room (replyLeast (protocolOf c)) ≡ t → length (received c bytes room .reply) ≤ room
     go true e =
-        let ten : numberIn (received c bytes room) ≡ 10 = received-number c bytes room ∙ sym (pick-yes (ltb room replyLeast) _ _ 10 e refl) in
+        let ten : numberIn (received c bytes room) ≡ 10 = received-number c bytes room ∙ sym (pick-yes (ltb room (replyLeast (protocolOf c))) _ _ 10 e refl) in
         let none : length (received c bytes room .reply) ≡ 0 = ap length (received-leaves c bytes room .short ten .2) in
         omega (arith, none)
-    go false e = omega (arith, received-short c bytes room, ltb-false room replyLeast e)
+    go false e = omega (arith, received-short c bytes room, ltb-false room (replyLeast (protocolOf c)) e)
 
 receiving : Receiving
 receiving =

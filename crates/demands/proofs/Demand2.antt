@@ -7,7 +7,7 @@ use native.Mathlib.Omega.{arith}
 use borrow.Author.Tests.{le-ltb}
 use lib.Dec.{eqb, ltb}
 use lib.ListN.{length}
-use Rattle.base.specs.Buffers.{replyLeast}
+use Rattle.base.specs.Buffers.{rtuLeast}
 use Rattle.base.proofs.Tests.{pick-both}
 use Rattle.answers.specs.declared.Answer.{Answer}
 use Rattle.pending.specs.Scanning.{scanFrom}
@@ -28,7 +28,7 @@ use Rattle.nfo_port.specs.Receive.{nfoStream, nfoReceived}
 use Rattle.rtu_port.specs.Receive as Rtu
 use Rattle.ascii_port.specs.Receive.{asciiStream, asciiReceived}
 use Rattle.receive.specs.Receive.{received}
-use Rattle.receive.proofs.Laws.{by-rtu}
+use Rattle.receive.proofs.Laws.{by-rtu, enough-rtu}
 use Rattle.master_nfo.proofs.Asked.{enquirable-is, selectable-is}
 use Rattle.master_nfo.proofs.Heard.{enquiry-formed, enquiry-heard, select-formed, select-heard}
 use Rattle.master_request.specs.declared.Ask.{Ask}
@@ -49,7 +49,7 @@ use Rattle.demands.proofs.Replied.{rtu-answers, ascii-answers}
 frame-read : (address : ℕ) (ask : Ask) (registers : List ℕ) → sayable address ask (length registers) ≡ true → FrameRead (frame address ask registers)
 unfolding Rtu.rtuReceived
 frame-read address ask registers e c p room h =
-    by-rtu c (frame address ask registers) room p ∙ simp (le-ltb room replyLeast h, Frames.asked-holds address ask registers e)
+    by-rtu c (frame address ask registers) room p ∙ simp (le-ltb room rtuLeast (enough-rtu c room p h), Frames.asked-holds address ask registers e)
 
 -- a unit that arrives whole asks what was said
 arrives : (ask : Ask) (registers unit : List ℕ) → unit ≡ requestUnit ask registers → requestOf (requestUnit ask registers) ≡ requestSaid ask registers → Arrives ask registers unit
@@ -86,7 +86,7 @@ nothing : (c : Card) (bytes : List ℕ) (room : ℕ) → ((a : Answer) → recei
 unfolding received nfoReceived asciiReceived Rtu.rtuReceived waiting
 nothing c bytes room =
     pick-both Silent (eqb (protocolOf c) 1)
-    (λ _. pick-both Silent (ltb room replyLeast) (λ _ _. refl) (λ _. pick-both Silent (frameHolds bytes) (λ _ none. absurd (none _ refl)) (λ _ _. refl)))
+    (λ _. pick-both Silent (ltb room rtuLeast) (λ _ _. refl) (λ _. pick-both Silent (frameHolds bytes) (λ _ none. absurd (none _ refl)) (λ _ _. refl)))
     (λ _. pick-both Silent (eqb (protocolOf c) 2) (λ _. streamed-nothing asciiStream) (λ _. streamed-nothing nfoStream))
   where
     Silent : Received → Type 0
@@ -94,7 +94,7 @@ nothing c bytes room =
 
     streamed-nothing : (S : Stream) → Silent (streamed S c bytes room)
     streamed-nothing S =
-        pick-both Silent (ltb room replyLeast) (λ _ _. refl)
+        pick-both Silent (ltb room (S .least)) (λ _ _. refl)
         (λ _. pick-both Silent (scanFrom (S .feeding) (c .port .pending) 0 bytes .taken) (λ _ none. absurd (none _ refl)) (λ _ _. refl))
 
 pub demand-2 : Demand2

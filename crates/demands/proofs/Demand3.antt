@@ -20,7 +20,7 @@ use Rattle.demands.proofs.Given.{progress, to-the-end, are-calls}
 
 module _ (P : Wire) (S : Stream) (H : Streamed P S) where
   of-calls : (c : Card) (s : List ℕ) (k : Course) → Speaks P c → Calls c s k → k ≡ course S c s
-  of-calls c s k p = calls-course S (H .same) P (H .calls) (H .speaks) p
+  of-calls c s k p = calls-course S (H .same) P (H .calls) (H .enough) (H .speaks) p
 
   reading : (c : Card) → Speaks P c → NothingPending c → (s : List ℕ) (k : Course) → Calls c s k → (y : Yield) → Reads (P .format) 0 s y → Same P c k y
   reading c p (none, size) s k l y r =

@@ -6,9 +6,22 @@ use Rattle.demands.proofs.Host.{host}
 use Rattle.demands.proofs.Silence.{silence-stops}
 use Rattle.demands.proofs.Effects.{effects}
 use Rattle.demands.proofs.Demand2.{demand-2}
+use Rattle.demands.proofs.Identity.{who-are-you}
 use Rattle.demands.proofs.Letters.{letters}
 use Rattle.demands.proofs.Demand3.{demand-3}
 use Rattle.demands.proofs.Cases.{cases-hold}
 
 pub demands : Demands
-demands = record { kept = kept; demand-1 = demand-1; host = host; silence = silence-stops; effects = effects; demand-2 = demand-2; letters = letters; demand-3 = demand-3; cases = cases-hold }
+demands =
+    record {
+      kept = kept;
+      demand-1 = demand-1;
+      host = host;
+      silence = silence-stops;
+      effects = effects;
+      demand-2 = demand-2;
+      identity = who-are-you;
+      letters = letters;
+      demand-3 = demand-3;
+      cases = cases-hold;
+    }

@@ -44,13 +44,17 @@ module _ {H : Type 0} (E : Ears H) (m : List ℕ) (a : Answer) (reply : List ℕ
   pub unanswered : Unanswered E m a → reply ≡ [] → AnswerHeard E m a reply
   unanswered u e = record { none = (λ _. u, λ _. e); heard = λ n. absurd (n u) }
 
-  -- what is heard of a reply has the number 0, and what is heard of nothing has 14
-  pub answered : (number : H → ℕ) → number (E .hear []) ≡ 14 → number (E .back m a) ≡ 0 → E .toAll m ≡ false → (a ≡ NotOurs → ⊥) → E .hear reply ≡ E .back m a → AnswerHeard E m a reply
-  answered number silence told one ours e = record { none = (λ z. absurd (some z), λ u. absurd (no u)); heard = λ _. e }
+  -- there is a reply, and it is heard as it should be
+  pub answered-by : (reply ≡ [] → ⊥) → E .toAll m ≡ false → (a ≡ NotOurs → ⊥) → E .hear reply ≡ E .back m a → AnswerHeard E m a reply
+  answered-by some one ours e = record { none = (λ z. absurd (some z), λ u. absurd (no u)); heard = λ _. e }
     where
-      some : reply ≡ [] → ⊥
-      some z = let n : number (E .hear []) ≡ 0 = ap (λ (s : List ℕ). number (E .hear s)) (sym z) ∙ ap number e ∙ told in omega (arith, n, silence)
-
       no : Unanswered E m a → ⊥
       no (inl t) = not-both t one
       no (inr t) = ours t
+
+  -- what is heard of a reply has the number 0, and what is heard of nothing has 14
+  pub answered : (number : H → ℕ) → number (E .hear []) ≡ 14 → number (E .back m a) ≡ 0 → E .toAll m ≡ false → (a ≡ NotOurs → ⊥) → E .hear reply ≡ E .back m a → AnswerHeard E m a reply
+  answered number silence told one ours e = answered-by some one ours e
+    where
+      some : reply ≡ [] → ⊥
+      some z = let n : number (E .hear []) ≡ 0 = ap (λ (s : List ℕ). number (E .hear s)) (sym z) ∙ ap number e ∙ told in omega (arith, n, silence)

@@ -14,6 +14,8 @@ use Rattle.table.specs.Table.{Start, Word, NoWord, Line, rows, lineAt, startWor
 use Rattle.table.specs.declared.labels.Row.{Row}
 use Rattle.table.proofs.Columns.{past-table}
 use Rattle.port.specs.Port.{fresh, withSum}
+use Rattle.identity.specs.Identity.{Identity}
+use Rattle.identity.specs.declared.Part.{Part}
 use Rattle.drive.specs.Plant as Plants
 use Rattle.drive.specs.Plant.{Plant, mode, scmd, flags}
 use Rattle.drive.specs.Flags.{only, lowestOf}
@@ -31,15 +33,16 @@ use Rattle.service.specs.Serving.{Served, permitted, toldServed, wroteServed}
 use Rattle.service.proofs.Stores.{written-permits}
 use Rattle.pending.specs.declared.Pending.{Pending}
 use Rattle.nfo_service.specs.Serve as Nfo
-use Rattle.card.specs.State.{protocolOf, protocolNumber, started}
+use Rattle.card.specs.State.{protocolOf, cardSum, protocolNumber, started}
 use Rattle.card.specs.declared.state.Card.{Card}
 use Rattle.card.specs.declared.state.Protocol as Protocols
 use Rattle.card.specs.declared.outcome.Outcome.the-variants as Outcomes
 use Rattle.turn.specs.Turn.{Received, cardAfter, portAfter}
 use Rattle.receive.specs.Receive.{received}
-use Rattle.demands.specs.Kept.{SoundPlant, Sound}
+use Rattle.demands.specs.Calls.{besides}
+use Rattle.demands.specs.Kept.{SoundPlant, SoundIdentity, Sound}
 use Rattle.demands.specs.Effects.{Tells, WriteLeaves, StopLeaves, ReadLeaves, InvSt, lowest, manual, auto-stands, auto-runs, bus-stands, bus-runs, Effects}
-use Rattle.demands.proofs.Serving.{Came, not-ours, refused, told-row, wrote-row, stop}
+use Rattle.demands.proofs.Serving.{Came, not-ours, refused, told-row, wrote-row, identified, stop}
 use Rattle.demands.proofs.Kept.{kept}
 use Rattle.demands.proofs.Naming.{names}
 use Rattle.demands.proofs.Changing.{tells-word, wrote, stopped-is, read-leaves}
@@ -52,16 +55,19 @@ case (Answers.Told row w) = 0
 case (Answers.Written change) = 1
 case Answers.NotOurs = 2
 case (Answers.Refused x) = 3
+case (Answers.Identified part) = 4
 
 abbrev changeOr : Change → Answer → Change
 changeOr k (Answers.Told row w) = k
 changeOr k (Answers.Written change) = change
+changeOr k (Answers.Identified part) = k
 changeOr k Answers.NotOurs = k
 changeOr k (Answers.Refused x) = k
 
 abbrev rowOr : Row → Answer → Row
 rowOr k (Answers.Told row w) = row
 rowOr k (Answers.Written change) = k
+rowOr k (Answers.Identified part) = k
 rowOr k Answers.NotOurs = k
 rowOr k (Answers.Refused x) = k
 
@@ -75,7 +81,7 @@ module _ (c : Card) (sound : Sound c) (r : Received) (then : Sound (r .card)) wh
 
   -- by its permit
   permit-writes : (h : Pending) (row w : ℕ) (change : Change) (k : Permit) → written (c .plant) row w .permit ≡ k → permitted k ≡ Answers.Written change
-      → r .card ≡ cardAfter h (wroteServed (c .plant) (c .port .numbers) row w) → Writes change
+      → r .card ≡ cardAfter (c .identity) h (wroteServed (c .plant) (c .port .numbers) row w) → Writes change
   unfolding wroteServed cardAfter flagStands
   permit-writes h row w change (Permits.Write done) e a card =
       let k = written-permits (c .plant) row w done e in
@@ -84,13 +90,13 @@ module _ (c : Card) (sound : Sound c) (r : Received) (then : Sound (r .card)) wh
       let none : flags (c .plant) ≡ 0 = eqb-true (flags (c .plant)) 0 (not-false (eqb (flags (c .plant)) 0) (k .2)) in (
         λ _. subst (λ (x : Change). WriteLeaves c x (r .card)) (sym same)
             (wrote c sound (r .card) then row w (k .1) (ap (λ (d : Card). d .plant) card ∙ k .3)
-            (ap (λ (d : Card). d .port .numbers) card ∙ ap (λ (x : Answer). portAfter x (c .port .numbers)) answer)),
+            (ap (λ (d : Card). d .port .numbers) card ∙ ap (λ (x : Answer). portAfter x (c .port .numbers)) answer) (ap (λ (d : Card). d .identity) card)),
         λ some. absurd (some none),
       )
   permit-writes h row w change (Permits.Refused x) e a card = absurd (other-case _ _ a (λ z. omega (arith, z)))
 
   stop-writes : (h : Pending) (adr : ℕ) (row : Row) (w : ℕ) (change : Change) → Nfo.stops (c .plant) adr (row .0) w ≡ true → protocolOf c ≡ 0
-      → Answers.Written (record { row = row; word = w }) ≡ Answers.Written change → r .card ≡ cardAfter h (Nfo.stopServed (c .plant) (c .port .numbers) row w) → Writes change
+      → Answers.Written (record { row = row; word = w }) ≡ Answers.Written change → r .card ≡ cardAfter (c .identity) h (Nfo.stopServed (c .plant) (c .port .numbers) row w) → Writes change
   unfolding Nfo.stops only14 cardAfter
   stop-writes h adr row w change t serial a card =
       let x = both-out (Nfo.toAll adr) _ t in
@@ -101,16 +107,17 @@ module _ (c : Card) (sound : Sound c) (r : Received) (then : Sound (r .card)) wh
       sym (ap (changeOr change) a) ∙ rw (eqb-true (row .0) SCMD (y .0), eqb-true w 0 (z .0)) in (
         λ none. absurd (omega (arith, none, one)),
         λ _. subst (λ (k : Change). StopLeaves c k (r .card)) (sym same)
-            (stopped-is c sound (r .card) then one (ap (λ (d : Card). d .plant) card) (ap (λ (d : Card). d .port .numbers) card) serial),
+            (stopped-is c sound (r .card) then one (ap (λ (d : Card). d .plant) card) (ap (λ (d : Card). d .port .numbers) card) (ap (λ (d : Card). d .identity) card) serial),
       )
 
   came-writes : (nfo : Bool) (h : Pending) (s : Served) (change : Change) → Came (c .plant) (c .port .numbers) nfo s → (nfo ≡ true → protocolOf c ≡ 0)
-      → s .answer ≡ Answers.Written change → r .card ≡ cardAfter h s → Writes change
+      → s .answer ≡ Answers.Written change → r .card ≡ cardAfter (c .identity) h s → Writes change
   unfolding toldServed wroteServed
   came-writes nfo h s change not-ours serial a card = absurd (other-case _ _ a (λ z. omega (arith, z)))
   came-writes nfo h s change (refused x) serial a card = absurd (other-case _ _ a (λ z. omega (arith, z)))
   came-writes nfo h s change (told-row row) serial a card = absurd (other-case _ _ a (λ z. omega (arith, z)))
   came-writes nfo h s change (wrote-row row w) serial a card = permit-writes h row w change (written (c .plant) row w .permit) refl a card
+  came-writes nfo h s change (identified part) serial a card = absurd (other-case _ _ a (λ z. omega (arith, z)))
   came-writes nfo h s change (stop adr row w t) serial a card = stop-writes h adr row w change t (serial refl) a card
 
   -- ---- a done read
@@ -118,7 +125,7 @@ module _ (c : Card) (sound : Sound c) (r : Received) (then : Sound (r .card)) wh
   permit-not-told (Permits.Write change) row w a = other-case _ _ a (λ z. omega (arith, z))
   permit-not-told (Permits.Refused x) row w a = other-case _ _ a (λ z. omega (arith, z))
 
-  came-tells : (nfo : Bool) (h : Pending) (s : Served) (n w : ℕ) → Came (c .plant) (c .port .numbers) nfo s → s .answer ≡ Answers.Told (record { 0 = n }) w → r .card ≡ cardAfter h s
+  came-tells : (nfo : Bool) (h : Pending) (s : Served) (n w : ℕ) → Came (c .plant) (c .port .numbers) nfo s → s .answer ≡ Answers.Told (record { 0 = n }) w → r .card ≡ cardAfter (c .identity) h s
       → ReadLeaves c n (r .card)
   unfolding toldServed wroteServed cardAfter
   came-tells nfo h s n w not-ours a card = absurd (other-case _ _ a (λ z. omega (arith, z)))
@@ -126,9 +133,26 @@ module _ (c : Card) (sound : Sound c) (r : Received) (then : Sound (r .card)) wh
   came-tells nfo h s n w (told-row row) a card =
       let same : row .0 ≡ n = ap (λ (x : Answer). rowOr row x .0) a in
       read-leaves c (r .card) n (ap (λ (d : Card). d .plant) card ∙ ap (λ (k : ℕ). told (c .plant) (c .port .numbers) k .plant) same)
-      (ap (λ (d : Card). d .port .numbers) card ∙ ap (λ (k : ℕ). withSum 0 (told (c .plant) (c .port .numbers) k .port)) same)
+      (ap (λ (d : Card). d .port .numbers) card ∙ ap (λ (k : ℕ). withSum 0 (told (c .plant) (c .port .numbers) k .port)) same) (ap (λ (d : Card). d .identity) card)
   came-tells nfo h s n w (wrote-row row v) a card = absurd (permit-not-told (written (c .plant) row v .permit) _ w a)
+  came-tells nfo h s n w (identified part) a card = absurd (other-case _ _ a (λ z. omega (arith, z)))
   came-tells nfo h s n w (stop adr row v t) a card = absurd (other-case _ _ a (λ z. omega (arith, z)))
+
+-- ---- a part of the identity was told
+module _ (c : Card) (r : Received) where
+  permit-no-part : (k : Permit) (part : Part) → permitted k ≡ Answers.Identified part → ⊥
+  permit-no-part (Permits.Write change) part a = other-case _ _ a (λ z. omega (arith, z))
+  permit-no-part (Permits.Refused x) part a = other-case _ _ a (λ z. omega (arith, z))
+
+  came-identifies : (nfo : Bool) (h : Pending) (s : Served) (part : Part) → Came (c .plant) (c .port .numbers) nfo s → s .answer ≡ Answers.Identified part
+      → r .card ≡ cardAfter (c .identity) h s → besides (r .card) ≡ besides (cardSum 0 c)
+  unfolding toldServed wroteServed cardAfter
+  came-identifies nfo h s part not-ours a card = absurd (other-case _ _ a (λ z. omega (arith, z)))
+  came-identifies nfo h s part (refused x) a card = absurd (other-case _ _ a (λ z. omega (arith, z)))
+  came-identifies nfo h s part (told-row row) a card = absurd (other-case _ _ a (λ z. omega (arith, z)))
+  came-identifies nfo h s part (wrote-row row w) a card = absurd (permit-no-part (written (c .plant) row w .permit) part a)
+  came-identifies nfo h s part (identified told) a card = ap besides card
+  came-identifies nfo h s part (stop adr row w t) a card = absurd (other-case _ _ a (λ z. omega (arith, z)))
 
 -- ---- Inv St
 -- "Inv St is the lowest flagged number, else 24 at MODE 1, 33/34 at MODE 2 and 37/38 at MODE 3, standing/running"
@@ -183,20 +207,20 @@ has-word : Start → Bool
 has-word (Word w) = true
 has-word NoWord = false
 
-start : (protocol : Protocols.Protocol) (n w : ℕ) → lineAt n .start ≡ Word w → Tells (started protocol) n w
+start : (protocol : Protocols.Protocol) (i : Identity) → SoundIdentity i → (n w : ℕ) → lineAt n .start ≡ Word w → Tells (started protocol i) n w
 unfolding started has-word
-start protocol n w e = go (ltb n rowCount) refl
+start protocol i given n w e = go (ltb n rowCount) refl
   where
-    go : (t : Bool) → ltb n rowCount ≡ t → Tells (started protocol) n w
+    go : (t : Bool) → ltb n rowCount ≡ t → Tells (started protocol i) n w
     go true l =
-        tells-word (started protocol) (kept .start protocol) n w
+        tells-word (started protocol i) (kept .start protocol i given) n w
         (eqb-true _ w (subst (λ (x : Start). startsRight x (told Plants.started (fresh (protocolNumber protocol)) n .word) ≡ true) e (start-told (protocolNumber protocol) n (ltb-true n rowCount l))))
     go false l = absurd (false≢true (ap (λ (x : Line). has-word (x .start)) (past-table n (ltb-false n rowCount l)) ∙ ap has-word e))
 
-start-status : (protocol : Protocols.Protocol) (n : ℕ) → lineAt n .start ≡ NoWord → n < rowCount → Tells (started protocol) n 24
+start-status : (protocol : Protocols.Protocol) (i : Identity) → SoundIdentity i → (n : ℕ) → lineAt n .start ≡ NoWord → n < rowCount → Tells (started protocol i) n 24
 unfolding started
-start-status protocol n e l =
-    tells-word (started protocol) (kept .start protocol) n 24
+start-status protocol i given n e l =
+    tells-word (started protocol i) (kept .start protocol i given) n 24
     (eqb-true _ 24 (subst (λ (x : Start). startsRight x (told Plants.started (fresh (protocolNumber protocol)) n .word) ≡ true) e (start-told (protocolNumber protocol) n l)))
 
 -- ---- ALL OF IT
@@ -217,9 +241,12 @@ effects =
       read = λ c sound bytes room n w e.
           let k = comes c bytes room (Answers.Told (record { 0 = n }) w) e in
           came-tells c sound (received c bytes room) (kept .receive c bytes room sound) (k .nfo) (k .pending) (k .served) n w (k .came) (k .answer) (k .card);
+      identified = λ c bytes room part e.
+          let k = comes c bytes room (Answers.Identified part) e in
+          came-identifies c (received c bytes room) (k .nfo) (k .pending) (k .served) part (k .came) (k .answer) (k .card);
       row-told = λ c sound n l a b s. tells-word c sound n _ (ap (λ (t : Told). t .word) (tells-stored (c .plant) (c .port .numbers) n l a b s));
       status = status;
       sio-err = λ c sound. tells-word c sound SioErr _ (ap (λ (t : Told). t .word) (tells-sioerr (c .plant) (c .port .numbers)));
       start = start;
-      start-status = λ protocol. (start-status protocol Inv-St-ack refl (omega arith), start-status protocol Inv-St refl (omega arith));
+      start-status = λ protocol i given. (start-status protocol i given Inv-St-ack refl (omega arith), start-status protocol i given Inv-St refl (omega arith));
     }

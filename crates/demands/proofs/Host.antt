@@ -19,7 +19,8 @@ use Rattle.drive.specs.Events.{isFault, raised, ended, portFault, withActive, w
 use Rattle.drive.proofs.Laws.{fault-small}
 use Rattle.drive.proofs.Flagging.{put-in, taken-out}
 use Rattle.pending.proofs.Laws.{held-empty, held-emptied}
-use Rattle.card.specs.State.{coreOf, cardSum, started, restarted, withPlant}
+use Rattle.identity.specs.Identity.{Identity}
+use Rattle.card.specs.State.{coreOf, withCore, cardSum, started, restarted, withPlant}
 use Rattle.card.specs.Events.{eventOn, faultRaised, causeEnded, din1Set, measuredSet, portFaulted, parityTold, counted, tickedIn, ticked}
 use Rattle.card.specs.declared.state.Card.{Card}
 use Rattle.card.specs.declared.state.Protocol as Protocols
@@ -44,7 +45,7 @@ unfolding causeEnded eventOn ended
 end n c e = (bitAnd (causes (c .plant)) (allBut n), λ k. taken-out (causes (c .plant)) n k (fault-small n e), rw e)
 
 -- ---- the port's faults: a bit of SioErr, and at MODE 3 flag 14
-port-fault : (bit : ℕ) (c : Card) → bit < 32 → PortFaultLeaves bit c (record { port = record { pending = c .port .pending; numbers = portFaulted (only bit) (coreOf c) .port }; plant = portFaulted (only bit) (coreOf c) .plant })
+port-fault : (bit : ℕ) (c : Card) → bit < 32 → PortFaultLeaves bit c (withCore (portFaulted (only bit) (coreOf c)) c)
 unfolding portFaulted portFault
 port-fault bit c small =
     record {
@@ -62,7 +63,7 @@ parity c = port-fault 1 c (omega arith)
 -- ---- ticks
 module _ (n : ℕ) (c : Card) (h : Within 1 250 n) where
   -- 1 to 250 tenths are counted
-  counts : ticked n c .card ≡ record { port = record { pending = c .port .pending; numbers = counted (getD (c .plant) SioTot 0) n (coreOf c) .port }; plant = counted (getD (c .plant) SioTot 0) n (coreOf c) .plant }
+  counts : ticked n c .card ≡ withCore (counted (getD (c .plant) SioTot 0) n (coreOf c)) c
   unfolding ticked tickedIn
   counts = rw (le-ltb n 1 (h .0), le-ltb 250 n (h .1))
 
@@ -79,9 +80,9 @@ module _ (n : ℕ) (c : Card) (h : Within 1 250 n) where
   tick-above e l = rw (counts, ne-eqb (getD (c .plant) SioTot 0) 0 e, lt-ltb (getD (c .plant) SioTot 0) (sum (c .port .numbers) + n) l) (port-fault 0 (cardSum 0 c) (omega arith))
 
 -- ---- start and restart
-start : (protocol : Protocols.Protocol) → AtStart protocol (started protocol)
+start : (protocol : Protocols.Protocol) (i : Identity) → AtStart protocol (started protocol i)
 unfolding started Plants.started startWords rows
-start protocol = record { speaks = refl; pending = held-empty; sum = refl; din1 = refl; causes = refl; flags = refl }
+start protocol i = record { speaks = refl; pending = held-empty; sum = refl; din1 = refl; causes = refl; flags = refl }
 
 -- a restart sets four numbers, one after the other
 module _ (c : Card) (sound : Sound c) where

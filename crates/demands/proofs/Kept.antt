@@ -8,11 +8,12 @@ use borrow.Author.Tests.{not-false, eqb-true, eqb-false}
 use lib.Dec.{eqb, ltb}
 use lib.ListN.{length, getD, set, length-set}
 use lib.Seq.{getD-set-same, getD-set-other}
-use Rattle.base.specs.Buffers.{replyLeast}
+use Rattle.base.specs.Buffers.{rtuLeast}
 use Rattle.base.specs.Choice.{either}
 use Rattle.base.proofs.Tests.{pick-both}
 use Rattle.table.specs.Names.{SioTot, Inv-St-ack, Inv-St, SioErr}
 use Rattle.table.specs.declared.labels.Row.{Row}
+use Rattle.identity.specs.Identity.{Identity}
 use Rattle.port.specs.Port.{Numbers, ProtocolAt, Sum, Sioerr, protocol, sum, withSum, withSioerr}
 use Rattle.drive.specs.Plant.{Plant}
 use Rattle.drive.specs.Faults.{flagStands, without14, stopped}
@@ -58,8 +59,9 @@ use Rattle.rtu_port.specs.Receive.{rtuReceived}
 use Rattle.rtu.specs.Rtu.{frameHolds, addressIn, unitIn}
 use Rattle.ascii_port.specs.Receive.{asciiStream, asciiReceived}
 use Rattle.receive.specs.Receive.{received}
-use Rattle.demands.specs.Kept.{SoundPlant, SoundPending, Sound, Kept}
+use Rattle.demands.specs.Kept.{SoundPlant, SoundPending, SoundIdentity, Sound, IdentityKept, Kept}
 use Rattle.demands.proofs.Serving.{nfo-each, modbus-each}
+use Rattle.demands.proofs.Each.{same-identity}
 use Rattle.demands.proofs.KeptPlant.{Fits, acknowledged-keeps, without14-keeps, stopped-keeps, applied-keeps, raised-keeps, ended-keeps, active-keeps, measured-keeps, fault-keeps, restarted-keeps, started-sound}
 
 -- ---- the port's numbers, for a protocol n
@@ -110,6 +112,7 @@ module _ (n : ℕ) (p : Plant) (q : Numbers) (old : SoundCore n (record { port =
   kept-leaves : (a : Answer) → Leaves (Serving.keeping p q a)
   kept-leaves (Answers.Told row word) = again
   kept-leaves (Answers.Written change) = again
+  kept-leaves (Answers.Identified part) = again
   kept-leaves Answers.NotOurs = old
   kept-leaves (Answers.Refused refusal) = again
 
@@ -162,9 +165,10 @@ nfo-pending c x speaks size begun = record { sized = size; nfo = λ _. begun; rt
 ascii-pending : (c : Card) (x : Pending) → protocolOf c ≡ 2 → Sized x → ascii .viable (held x) ≡ true → SoundPending (withPending x c)
 ascii-pending c x speaks size begun = record { sized = size; nfo = λ e. absurd (omega (arith, speaks, e)); rtu = λ e. absurd (omega (arith, speaks, e)); ascii = λ _. begun }
 
--- ---- a card of its parts, after a sound one of the same protocol
-sound : (c d : Card) → Sound c → SoundCore (protocolOf c) (coreOf d) → SoundPending d → Sound d
-sound c d old ((plant, sum), (numbers, same)) pending = record { plant = plant; pending = pending; numbers = numbers; protocol = rw same (old .protocol); sum = sum }
+-- ---- a card of its parts, after a sound one of the same protocol and the same identity
+sound : (c d : Card) → Sound c → SoundCore (protocolOf c) (coreOf d) → SoundPending d → d .identity ≡ c .identity → Sound d
+sound c d old ((plant, sum), (numbers, same)) pending who =
+    record { plant = plant; pending = pending; numbers = numbers; protocol = rw same (old .protocol); sum = sum; identity = rw who (old .identity) }
 
 -- the parts of a sound card
 coreIn : (c : Card) → Sound c → SoundCore (protocolOf c) (coreOf c)
@@ -172,7 +176,7 @@ coreIn c old = ((old .plant, old .sum), (old .numbers, refl))
 
 -- what is pending stays
 core-keeps : (c : Card) (k : Core) → Sound c → SoundCore (protocolOf c) k → Sound (withCore k c)
-core-keeps c k old core = sound c (withCore k c) old core (same-pending c k (core .1 .1) (old .pending))
+core-keeps c k old core = sound c (withCore k c) old core (same-pending c k (core .1 .1) (old .pending)) refl
 
 -- the plant alone changes
 plant-keeps : (change : Plant → Plant) → ((q : Numbers) (p : Plant) → Fits q p → Fits q (change p)) → (c : Card) → Sound c → Sound (State.withPlant (change (c .plant)) c)
@@ -199,9 +203,11 @@ module _ (c : Card) (old : Sound c) where
   modbus-serves = modbus-leaves n (c .plant) (c .port .numbers) (coreIn c old)
 
   -- "what is pending after a taken message is empty"
-  after-keeps : (x : Pending) (s : Served) → Sized x → Serves s → Sound (cardAfter x s)
+  after-keeps : (x : Pending) (s : Served) → Sized x → Serves s → Sound (cardAfter (c .identity) x s)
   unfolding cardAfter
-  after-keeps x s size left = sound c (cardAfter x s) old left (none-pending (cardAfter x s) (sized-emptied x size) (held-emptied x))
+  after-keeps x s size left =
+      let d : Card = cardAfter (c .identity) x s in
+      sound c d old left (none-pending d (sized-emptied x size) (held-emptied x)) refl
 
   module _ (bytes : List ℕ) (room : ℕ) where
     -- a scan takes a message, or leaves a beginning
@@ -212,15 +218,15 @@ module _ (c : Card) (old : Sound c) where
         let scan : Scan = scanFrom (S .feeding) (c .port .pending) 0 bytes in
         let size : Sized (scan .pending) = scan-sized F L (S .feeding) W bytes (c .port .pending) 0 (old .pending .sized) in
         let left = scan-leaves F L (S .feeding) W bytes (c .port .pending) 0 (old .pending .sized) begun in
-        pick-both Keeps (ltb room replyLeast) (λ _. old)
+        pick-both Keeps (ltb room (S .least)) (λ _. old)
         (λ _. pick-both Keeps (scan .taken) (λ _. after-keeps (scan .pending) (S .served c (scan .pending)) size (serves (scan .pending)))
-        (λ e. sound c (withPending (scan .pending) c) old (coreIn c old) (waits (scan .pending) size (left .1 e))))
+        (λ e. sound c (withPending (scan .pending) c) old (coreIn c old) (waits (scan .pending) size (left .1 e)) refl))
 
     -- a frame is taken, or changes nothing
     rtu-keeps : Keeps (rtuReceived c bytes room)
     unfolding rtuReceived
     rtu-keeps =
-        pick-both Keeps (ltb room replyLeast) (λ _. old)
+        pick-both Keeps (ltb room rtuLeast) (λ _. old)
         (λ _. pick-both Keeps (frameHolds bytes) (λ _. after-keeps (c .port .pending) _ (old .pending .sized) (modbus-serves (addressIn bytes) (unitIn bytes))) (λ _. old))
 
     -- a stream by its format
@@ -284,10 +290,10 @@ tick-keeps tenths c old =
     (λ _. core-keeps c _ old (count-leaves (protocolOf c) tenths (coreOf c) (coreIn c old)))
 
 -- ---- start and restart: nothing is pending, and the sum is 0
-start-keeps : (protocol : Protocols.Protocol) → Sound (State.started protocol)
+start-keeps : (protocol : Protocols.Protocol) (i : Identity) → SoundIdentity i → Sound (State.started protocol i)
 unfolding State.started
-start-keeps protocol =
-    record { plant = started-sound; pending = none-pending (State.started protocol) sized-empty held-empty; numbers = refl; protocol = most protocol; sum = λ _. refl }
+start-keeps protocol i given =
+    record { plant = started-sound; pending = none-pending (State.started protocol i) sized-empty held-empty; numbers = refl; protocol = most protocol; sum = λ _. refl; identity = given }
   where
     most : (protocol : Protocols.Protocol) → State.protocolNumber protocol ≤ 2
     most Nfo = omega arith
@@ -303,6 +309,23 @@ restart-keeps c old =
       numbers = refl;
       protocol = old .protocol;
       sum = λ _. refl;
+      identity = old .identity;
+    }
+
+-- ---- the identity: every routine hands on the one that it was handed
+identity-kept : IdentityKept
+unfolding State.started State.restarted Events.faultRaised Events.causeEnded Events.eventOn Events.din1Set Events.measuredSet Events.parityTold Events.ticked
+identity-kept =
+    record {
+      start = λ protocol i. refl;
+      restart = λ c. refl;
+      raise = λ n c. refl;
+      end = λ n c. refl;
+      din1 = λ active c. refl;
+      measure = λ measured c. refl;
+      parity = λ c. refl;
+      tick = λ n c. refl;
+      receive = same-identity;
     }
 
 pub kept : Kept
@@ -317,4 +340,5 @@ kept =
       parity = parity-keeps;
       tick = tick-keeps;
       receive = λ c bytes room old. receive-keeps c old bytes room;
+      identity = identity-kept;
     }

@@ -7,14 +7,14 @@ use Prim.Native.Nat.{ℕ, _+_, _≤_}
 use native.Mathlib.Omega.{arith}
 use lib.Dec.{eqb, ltb}
 use lib.ListN.{length, getD}
-use Rattle.base.specs.Buffers.{replyLeast}
+use Rattle.base.specs.Buffers.{rtuLeast}
 use Rattle.base.specs.Choice.{pick}
 use Rattle.base.proofs.Tests.{pick-both}
 use Rattle.port.specs.Port.{Numbers}
 use Rattle.drive.specs.Plant.{Plant}
 use Rattle.table.specs.declared.labels.Row.{Row}
 use Rattle.answers.specs.declared.Answer.{Answer}
-use Rattle.answers.specs.declared.Answer.the-variants.{Told, Written, NotOurs, Refused}
+use Rattle.answers.specs.declared.Answer.the-variants.{Told, Written, Identified, NotOurs, Refused}
 use Rattle.answers.specs.declared.Refusal.{Refusal}
 use Rattle.answers.specs.declared.Refusal.the-variants as Refusals
 use Rattle.answers.specs.Answer.{refusalNumber, answerNumber}
@@ -85,6 +85,7 @@ refusal-within Refusals.NoFunction = (omega arith, omega arith)
 pub answer-most : (x : Answer) → answerNumber x ≤ 9
 answer-most (Told row w) = omega arith
 answer-most (Written change) = omega arith
+answer-most (Identified part) = omega arith
 answer-most NotOurs = omega arith
 answer-most (Refused x) = refusal-within x .1
 
@@ -128,7 +129,7 @@ module _ (c : Card) (count : ℕ) where
 
   module _ (pending : Pending) (used : ℕ) (reply : List ℕ) where
     abbrev one : Served → Received
-    one s = answered pending used s reply
+    one s = answered (c .identity) pending used s reply
 
     one-leaves : (s : Served) → servedNumber s ≤ 9 → (servedNumber s ≡ 1 → (besides (one s .card) ≡ besides c) × (reply ≡ []))
         → (2 ≤ servedNumber s → besides (one s .card) ≡ besides (cardSum 0 c)) → Leaves c count (one s)
@@ -148,6 +149,7 @@ module _ (c : Card) (count : ℕ) where
     unfolding cardAfter
     by-answer p q (Told row w) k n = one-leaves (keeping p q (Told row w)) (omega arith) (λ h. absurd (omega (arith, h))) (λ h. absurd (omega (arith, h)))
     by-answer p q (Written change) k n = one-leaves (keeping p q (Written change)) (omega arith) (λ h. absurd (omega (arith, h))) (λ h. absurd (omega (arith, h)))
+    by-answer p q (Identified part) k n = one-leaves (keeping p q (Identified part)) (omega arith) (λ h. absurd (omega (arith, h))) (λ h. absurd (omega (arith, h)))
     by-answer p q NotOurs k n =
         one-leaves (keeping p q NotOurs) (omega arith) (λ _. (ap (λ (s : Served). besides (one s .card)) (k (λ h. absurd (omega (arith, h)))), n refl)) (λ h. absurd (omega (arith, h)))
     by-answer p q (Refused x) k n =
@@ -178,7 +180,7 @@ module _ (c : Card) (bytes : List ℕ) (room : ℕ) where
       → Leaves c (length bytes) (streamed S c bytes room)
   stream-leaves S keeps silent =
       let scan : Scan = scanOf (S .feeding) c bytes in
-      pick-both Q (ltb room replyLeast) (λ _. short-leaves c (length bytes))
+      pick-both Q (ltb room (S .least)) (λ _. short-leaves c (length bytes))
       (λ _. pick-both Q (scan .taken)
       (λ _. taken-leaves c (length bytes) (scan .pending) (scan .used) (S .reply c (scan .pending)) (S .served c (scan .pending)) (keeps (scan .pending)) (silent (scan .pending)))
       (λ e. waiting-leaves c (length bytes) scan (scan-all (S .feeding) bytes (c .port .pending) 0 e ∙ omega arith)))
@@ -186,11 +188,11 @@ module _ (c : Card) (bytes : List ℕ) (room : ℕ) where
   rtu-leaves : Leaves c (length bytes) (Rtu.rtuReceived c bytes room)
   unfolding Rtu.rtuReceived ModbusReply.exchanged
   rtu-leaves =
-      pick-both Q (ltb room replyLeast) (λ _. short-leaves c (length bytes))
+      pick-both Q (ltb room rtuLeast) (λ _. short-leaves c (length bytes))
       (λ _. pick-both Q (frameHolds bytes)
-      (λ _. taken-leaves c (length bytes) (c .port .pending) (length bytes) (Rtu.frameOf (addressIn bytes) (Rtu.exchangeOn c bytes .reply)) (Rtu.exchangeOn c bytes .served)
+      (λ _. taken-leaves c (length bytes) (c .port .pending) (length bytes) (Rtu.frameOf (c .identity) (addressIn bytes) (Rtu.exchangeOn c bytes .reply)) (Rtu.exchangeOn c bytes .served)
       (served-keeps (c .plant) (c .port .numbers) (addressIn bytes) (unitIn bytes))
-      (λ e. ap (Rtu.frameOf (addressIn bytes)) (modbus-silent (addressIn bytes) (unitIn bytes) _ e)))
+      (λ e. ap (Rtu.frameOf (c .identity) (addressIn bytes)) (modbus-silent (addressIn bytes) (unitIn bytes) _ e)))
       (λ _. spoilt-leaves c (length bytes)))
 
   ascii-leaves : Leaves c (length bytes) (asciiReceived c bytes room)
@@ -198,7 +200,7 @@ module _ (c : Card) (bytes : List ℕ) (room : ℕ) where
   ascii-leaves =
       stream-leaves asciiStream
       (λ q. served-keeps (c .plant) (c .port .numbers) (getD (bytesIn (held q)) 0 0) (unitAmong (bytesIn (held q))))
-      (λ q e. ap (replyText (getD (bytesIn (held q)) 0 0)) (modbus-silent (getD (bytesIn (held q)) 0 0) (unitAmong (bytesIn (held q))) _ e))
+      (λ q e. ap (replyText (c .identity) (getD (bytesIn (held q)) 0 0)) (modbus-silent (getD (bytesIn (held q)) 0 0) (unitAmong (bytesIn (held q))) _ e))
 
   serial-leaves : Leaves c (length bytes) (nfoReceived c bytes room)
   unfolding nfoReceived

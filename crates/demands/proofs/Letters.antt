@@ -5,7 +5,6 @@ use Prim.Native.Nat.{ℕ}
 use native.Mathlib.Omega.{arith}
 use lib.Dec.{eqb, ltb}
 use lib.ListN.{take, drop}
-use Rattle.base.specs.Buffers.{replyLeast}
 use Rattle.base.proofs.Tests.{pick-both}
 use Rattle.hex.specs.Hex.{capitalOf, capitals, hexOf}
 use Rattle.answers.specs.declared.Answer.{Answer}
@@ -23,6 +22,7 @@ use Rattle.nfo_service.specs.Reply.{adrIn, repliedBy, replied}
 use Rattle.ascii.specs.Ascii.{bytesIn, asciiOf, addressAmong}
 use Rattle.ascii.proofs.Message.{formed-in-capitals, bytes-in-capitals, text-capitals}
 use Rattle.ascii.proofs.Lawful.{ascii-lawful}
+use Rattle.identity.specs.Identity.{Identity}
 use Rattle.modbus_service.specs.Reply.{sentBy}
 use Rattle.modbus_service.specs.declared.Reply.{Reply}
 use Rattle.modbus_service.specs.declared.Reply.the-variants.{Nothing, Data}
@@ -61,7 +61,7 @@ takes =
 streamed-each : (S : Stream) (P : List ℕ → Type 0) → P [] → (c : Card) (bytes : List ℕ) (room : ℕ) → ((p : Pending) → P (S .reply c p)) → P (streamed S c bytes room .reply)
 unfolding waiting
 streamed-each S P none c bytes room some =
-    pick-both (λ (r : Received). P (r .reply)) (ltb room replyLeast) (λ _. none)
+    pick-both (λ (r : Received). P (r .reply)) (ltb room (S .least)) (λ _. none)
     (λ _. pick-both (λ (r : Received). P (r .reply)) (scanFrom (S .feeding) (c .port .pending) 0 bytes .taken) (λ _. some _) (λ _. none))
 
 -- NFO serial: from after 02 up to and with 03
@@ -80,6 +80,7 @@ by-answer : (adr e : ℕ) (a : Answer) → BodyInCapitals (repliedBy adr e a)
 unfolding repliedBy ackOf nakOf
 by-answer adr e (Answers.Told row word) = subst InCapitals (reply-body adr e _) (body-capitals e _)
 by-answer adr e (Answers.Written change) = no-body
+by-answer adr e (Answers.Identified part) = no-body
 by-answer adr e Answers.NotOurs = no-body
 by-answer adr e (Answers.Refused refusal) = no-body
 
@@ -102,14 +103,14 @@ made : (address : ℕ) (unit : List ℕ) → InCapitals (asciiOf address unit)
 unfolding asciiOf
 made address unit = text-capitals _
 
-by-reply : (address : ℕ) (reply : Reply) → InCapitals (sentBy asciiOf address reply)
-by-reply address Nothing = nothing
-by-reply address (Data answer) = made address _
+by-reply : (i : Identity) (address : ℕ) (reply : Reply) → InCapitals (sentBy asciiOf i address reply)
+by-reply i address Nothing = nothing
+by-reply i address (Data answer) = made address _
 
 ascii-reply : (c : Card) → protocolOf c ≡ 2 → (bytes : List ℕ) (room : ℕ) → InCapitals (received c bytes room .reply)
 unfolding asciiReceived
 ascii-reply c p bytes room =
-    subst (λ (r : Received). InCapitals (r .reply)) (sym (by-ascii c bytes room p)) (streamed-each asciiStream InCapitals nothing c bytes room (λ p. by-reply (addressAmong (bytesIn (held p))) (exchangeOn c (bytesIn (held p)) .reply)))
+    subst (λ (r : Received). InCapitals (r .reply)) (sym (by-ascii c bytes room p)) (streamed-each asciiStream InCapitals nothing c bytes room (λ p. by-reply (c .identity) (addressAmong (bytesIn (held p))) (exchangeOn c (bytesIn (held p)) .reply)))
 
 -- ---- the requests
 enquiry : (address e : ℕ) → InCapitals (take 5 (drop 2 (enquiryOf address e)))

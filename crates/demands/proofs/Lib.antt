@@ -24,9 +24,11 @@ pub mod Allowing
 pub mod KeptPlant
 pub mod Kept
 pub mod Changing
+pub mod Each
 pub mod Coming
 pub mod Effects
 pub mod Host
 pub mod Silence
+pub mod Identity
 pub mod Cases
 pub mod Demands

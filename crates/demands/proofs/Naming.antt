@@ -2,11 +2,10 @@
 use mathlib.Core.Path.{_≡_, refl, sym, ap, _∙_}
 use mathlib.Core.Bool.{Bool, true, false, not}
 use mathlib.Core.List.{List}
-use Prim.Native.Nat.{ℕ, _+_, _/_, _≤_}
+use Prim.Native.Nat.{ℕ, _+_, _/_}
 use native.Mathlib.Omega.{arith}
 use lib.Dec.{eqb}
 use lib.ListN.{length}
-use Rattle.base.specs.Buffers.{replyLeast}
 use Rattle.base.specs.Choice.{pick, both}
 use Rattle.base.proofs.Tests.{pick-both}
 use Rattle.table.specs.Table.{lineAt}
@@ -50,7 +49,7 @@ use Rattle.master_request.specs.declared.Ask.the-variants as Asked
 use Rattle.master_request.specs.Ask.{headOf, manyUnit, requestUnit}
 use Rattle.master_request.specs.Said.{requestSaid}
 use Rattle.master_ascii.proofs.RoundTrip as Texts
-use Rattle.demands.specs.Calls.{nfoSerial, modbusAscii, besides}
+use Rattle.demands.specs.Calls.{LongEnough, nfoSerial, modbusAscii, besides}
 use Rattle.demands.specs.Effects.{row, registerBytes, SetsRow, Sets, select, rtu, ascii}
 use Rattle.demands.proofs.Streamed.{nfo-streamed, ascii-streamed}
 use Rattle.demands.proofs.Leaving.{refusal-within}
@@ -120,7 +119,7 @@ module _ (p : Plant) (q : Numbers) (n w : ℕ) where
 named : (p : Plant) (q : Numbers) (n w : ℕ) (o : Outcome) (s : Served) → o ≡ Outcomes.Served (s .answer) → Names p q n w s → outcomeNumber o ≡ 0 → o ≡ Outcomes.Served (change p q n w)
 named p q n w o s e names z = e ∙ ap Outcomes.Served (names (sym (ap outcomeNumber e) ∙ z))
 
-pub names : (c : Card) (n w : ℕ) (m : List ℕ) → Sets c n w m → (room : ℕ) → replyLeast ≤ room → outcomeNumber (received (besides c) m room .outcome) ≡ 0
+pub names : (c : Card) (n w : ℕ) (m : List ℕ) → Sets c n w m → (room : ℕ) → LongEnough c room → outcomeNumber (received (besides c) m room .outcome) ≡ 0
     → received (besides c) m room .outcome ≡ Outcomes.Served (Answers.Written (record { row = record { 0 = n }; word = w }))
 unfolding exchanged
 names c n w m (select address e speaks can h l k) room big =

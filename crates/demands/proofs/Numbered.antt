@@ -6,7 +6,7 @@ use mathlib.Core.List.{List, [], _∷_, _++_}
 use Prim.Native.Nat.{ℕ}
 use lib.Dec.{eqb, ltb}
 use lib.ListN.{length, getD}
-use Rattle.base.specs.Buffers.{replyLeast}
+use Rattle.base.specs.Buffers.{nfoLeast, rtuLeast, asciiLeast, replyLeast}
 use Rattle.base.specs.Choice.{pick, both}
 use Rattle.base.specs.Order.{Line, when, firstOf, saying}
 use Rattle.base.proofs.Tests.{pick-yes, pick-no}
@@ -21,7 +21,7 @@ use Rattle.permit.specs.declared.Permit.the-variants as Permits
 use Rattle.permit.specs.Refusals.{readOnly, readLine, writeLines}
 use Rattle.permit.specs.Permit.{permitOf}
 use Rattle.service.specs.Write.{written}
-use Rattle.service.specs.Serving.{Served, isNone, theRow, keeping, permitted, toldServed, wroteServed}
+use Rattle.service.specs.Serving.{Served, theRow, keeping, permitted, toldServed, wroteServed}
 use Rattle.pending.specs.Held.{held}
 use Rattle.pending.specs.Scanning.{Scan}
 use Rattle.nfo_parts.specs.declared.message.Message.{Message}
@@ -37,7 +37,7 @@ use Rattle.card.specs.declared.outcome.Outcome.the-variants as Outcomes
 use Rattle.modbus_words.specs.Words.{longAt}
 use Rattle.modbus.specs.Request.{requestOf}
 use Rattle.modbus.specs.declared.requests.Request.{Request}
-use Rattle.modbus.specs.declared.requests.Request.the-variants.{Read, One, Many, Malformed, Unknown}
+use Rattle.modbus.specs.declared.requests.Request.the-variants.{Read, One, Many, Identify, Serial, Malformed, Unknown}
 use Rattle.rtu.specs.Rtu.{frameHolds, addressIn, unitIn}
 use Rattle.ascii.specs.Ascii.{bytesIn, unitAmong}
 use Rattle.modbus_service.specs.Serve as Modbus
@@ -139,6 +139,8 @@ module _ (p : Plant) (q : Numbers) where
   task-number row (Read f first n) u = refl
   task-number row (One register w) u = wrote-number p q (row .0) w
   task-number row (Many first n l) u = wrote-number p q (row .0) (longAt u (l .from))
+  task-number row (Identify code object) u = refl
+  task-number row Serial u = refl
   task-number row (Malformed f) u = refl
   task-number row (Unknown f) u = refl
 
@@ -150,8 +152,8 @@ module _ (p : Plant) (q : Numbers) where
       ∙ ap (pick (not (Modbus.reachesUs st a)) 1) (of-pick (λ t. servedNumber (Modbus.done p q t)) (Modbus.isUnknown r) _ _
       ∙ ap (pick (Modbus.isUnknown r) 9) (of-pick (λ t. servedNumber (Modbus.done p q t)) (both (Modbus.toAll a) (Modbus.asksRead r)) _ _
       ∙ ap (pick (both (Modbus.toAll a) (Modbus.asksRead r)) 1) (of-pick (λ t. servedNumber (Modbus.done p q t)) (Modbus.isMalformed r) _ _
-      ∙ ap (pick (Modbus.isMalformed r) 8) (of-pick (λ t. servedNumber (Modbus.done p q t)) (isNone (Modbus.rowAsked r)) _ _
-      ∙ ap (pick (isNone (Modbus.rowAsked r)) 2) (task-number (theRow (Modbus.rowAsked r)) r u)))))
+      ∙ ap (pick (Modbus.isMalformed r) 8) (of-pick (λ t. servedNumber (Modbus.done p q t)) (Modbus.asksNothing r) _ _
+      ∙ ap (pick (Modbus.asksNothing r) 2) (task-number (theRow (Modbus.rowAsked r)) r u)))))
 
 pub modbus-number : (p : Plant) (q : Numbers) (a : ℕ) (u : List ℕ) → servedNumber (Modbus.served p q a u) ≡ firstOf (saying answerNumber (modbusOrder p (station p) a u)) 0
 unfolding Modbus.served
@@ -164,16 +166,19 @@ own : (t : Bool) (x y : Received) (o : Outcome) (s : Served) (ls : List (Line An
 own true x y o s ls e f h = ap outcomeNumber e ∙ h ∙ sym (first-served ls)
 own false x y o s ls e f h = ap outcomeNumber f
 
--- 10 first, whatever the protocol is
-by-protocol : (t e f : Bool) (s x y z : Received) (ls ms ns : List (Line Outcome)) → numberIn s ≡ 10
+-- 10 first, by the protocol's own least buffer
+short-first : (t : Bool) (s x : Received) (ls : List (Line Outcome)) → numberIn s ≡ 10 → numberIn x ≡ firstOf (saying outcomeNumber ls) 0
+    → numberIn (pick t s x) ≡ firstOf (saying outcomeNumber (when t Outcomes.ShortBuffer ∷ ls)) 0
+short-first true s x ls h p = h
+short-first false s x ls h p = p
+
+by-protocol : (e f : Bool) (room : ℕ) (s x y z : Received) (ls ms ns : List (Line Outcome)) → numberIn s ≡ 10
     → numberIn x ≡ firstOf (saying outcomeNumber ls) 0 → numberIn y ≡ firstOf (saying outcomeNumber ms) 0 → numberIn z ≡ firstOf (saying outcomeNumber ns) 0
-    → numberIn (pick e (pick t s x) (pick f (pick t s y) (pick t s z))) ≡ firstOf (saying outcomeNumber (when t Outcomes.ShortBuffer ∷ pick e ls (pick f ms ns))) 0
-by-protocol true true f s x y z ls ms ns h p q r = h
-by-protocol true false true s x y z ls ms ns h p q r = h
-by-protocol true false false s x y z ls ms ns h p q r = h
-by-protocol false true f s x y z ls ms ns h p q r = p
-by-protocol false false true s x y z ls ms ns h p q r = q
-by-protocol false false false s x y z ls ms ns h p q r = r
+    → numberIn (pick e (pick (ltb room rtuLeast) s x) (pick f (pick (ltb room asciiLeast) s y) (pick (ltb room nfoLeast) s z)))
+    ≡ firstOf (saying outcomeNumber (when (ltb room (pick e rtuLeast (pick f asciiLeast nfoLeast))) Outcomes.ShortBuffer ∷ pick e ls (pick f ms ns))) 0
+by-protocol true f room s x y z ls ms ns h p q r = short-first (ltb room rtuLeast) s x ls h p
+by-protocol false true room s x y z ls ms ns h p q r = short-first (ltb room asciiLeast) s y ms h q
+by-protocol false false room s x y z ls ms ns h p q r = short-first (ltb room nfoLeast) s z ns h r
 
 module _ (c : Card) (bytes : List ℕ) (room : ℕ) where
   rtu-number : numberIn (pick (frameHolds bytes) (Rtu.taken c bytes) (Rtu.spoilt c (length bytes))) ≡ firstOf (saying outcomeNumber (rtuOrder c bytes)) 0
@@ -197,8 +202,8 @@ module _ (c : Card) (bytes : List ℕ) (room : ℕ) where
       (nfo-number (c .plant) (c .port .numbers) (messageOf (scan .pending .bytes)))
 
   pub received-number : numberIn (received c bytes room) ≡ firstOf (saying outcomeNumber (callOrder c bytes room)) 0
-  unfolding received Rtu.rtuReceived asciiReceived nfoReceived
+  unfolding received Rtu.rtuReceived asciiReceived nfoReceived replyLeast
   received-number =
-      by-protocol (ltb room replyLeast) (eqb (protocolOf c) 1) (eqb (protocolOf c) 2) (tooShort c) _ _ _
+      by-protocol (eqb (protocolOf c) 1) (eqb (protocolOf c) 2) room (tooShort c) _ _ _
       (rtuOrder c bytes) (asciiOrder c (scanOf (asciiStream .feeding) c bytes)) (serialOrder c (scanOf (nfoStream .feeding) c bytes)) refl
       rtu-number (ascii-number (scanOf (asciiStream .feeding) c bytes)) (serial-number (scanOf (nfoStream .feeding) c bytes))

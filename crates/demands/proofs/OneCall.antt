@@ -7,7 +7,7 @@ use Prim.Native.Nat.{ℕ, _+_, _≤_}
 use native.Mathlib.Omega.{arith}
 use borrow.Author.Tests.{le-ltb}
 use lib.ListN.{length, drop, drop-of-length-le}
-use Rattle.base.specs.Buffers.{replyLeast}
+use Rattle.base.specs.Buffers.{rtuLeast}
 use Rattle.base.specs.Choice.{pick}
 use Rattle.base.proofs.Tests.{not-both, pick-both, pick-yes}
 use Rattle.stream.specs.Format.{Format, Lawful}
@@ -34,9 +34,9 @@ use Rattle.ascii_port.specs.Receive.{asciiStream}
 use Rattle.rtu.specs.Rtu.{frameHolds}
 use Rattle.rtu_port.specs.Receive.{rtuReceived}
 use Rattle.receive.specs.Receive.{received}
-use Rattle.receive.proofs.Laws.{by-rtu}
+use Rattle.receive.proofs.Laws.{by-rtu, enough-rtu}
 use Rattle.card.specs.State.{protocolOf}
-use Rattle.demands.specs.Calls.{Wire, nfoSerial, modbusAscii, Speaks, besides, TakesFirst}
+use Rattle.demands.specs.Calls.{LongEnough, Wire, nfoSerial, modbusAscii, Speaks, besides, TakesFirst}
 use Rattle.demands.specs.Orders.{scanOf}
 use Rattle.demands.specs.Kept.{Sound}
 use Rattle.demands.specs.Demand1.{numberIn, TakesIt, Only15Then, TakesTheFirst}
@@ -138,13 +138,13 @@ of-scan : (t : Bool) (a : Answer) (x y : Received) → x .outcome ≡ Outcomes.S
 of-scan true a x y e f = let n : numberIn x ≡ outcomeNumber (Outcomes.Served a) = ap outcomeNumber e in (λ h. absurd (omega (arith, answer-most a, n, h)), λ h. absurd (true≢false h))
 of-scan false a x y e f = (λ _. refl, λ _. ap outcomeNumber f)
 
-module _ (P : Wire) (S : Stream) (H : Streamed P S) (c : Card) (speaks : Speaks P c) (begun : Begun P c) (bytes : List ℕ) (room : ℕ) (h : replyLeast ≤ room) (y : Yield)
+module _ (P : Wire) (S : Stream) (H : Streamed P S) (c : Card) (speaks : Speaks P c) (begun : Begun P c) (bytes : List ℕ) (room : ℕ) (h : LongEnough c room) (y : Yield)
     (r : Reads (P .format) 0 (held (c .port .pending) ++ bytes) y) where
   abbrev seen : Scan
   seen = scanOf (S .feeding) c bytes
 
   called : received c bytes room ≡ byScan S c seen
-  called = H .calls c bytes room speaks ∙ simp (le-ltb room replyLeast h)
+  called = H .calls c bytes room speaks ∙ simp (le-ltb room (S .least) (H .enough c room speaks h))
 
   pub only-15 : (numberIn (received c bytes room) ≡ 15) ↔ (y .taken ≡ [])
   unfolding waiting
@@ -161,13 +161,13 @@ module _ (P : Wire) (S : Stream) (H : Streamed P S) (c : Card) (speaks : Speaks 
       let q : Pending = seen .pending in
       let size : Sized q = scan-sized (P .format) (H .lawful) (S .feeding) (H .follows) bytes (c .port .pending) 0 (begun .0) in
       let served = H .takes c q size (rw (f .message) (f .formed)) in
-      let is : received c bytes room ≡ answered q (seen .used) (S .served c q) (S .reply c q) = called ∙ sym (pick-yes (seen .taken) _ (waiting c seen) _ (f .taken) refl) in
+      let is : received c bytes room ≡ answered (c .identity) q (seen .used) (S .served c q) (S .reply c q) = called ∙ sym (pick-yes (seen .taken) _ (waiting c seen) _ (f .taken) refl) in
       let at : (S .served c q ≡ P .served c (t .bytes)) × (S .reply c q ≡ P .reply c (t .bytes)) = rw (f .message) at served in
       subst (TakesIt P c t) (sym is)
       (record {
         outcome = ap (λ (s : Served). Outcomes.Served (s .answer)) (at .0);
         reply = at .1;
-        state = ap (λ (s : Served). besides (cardAfter (c .port .pending) s)) (at .0);
+        state = ap (λ (s : Served). besides (cardAfter (c .identity) (c .port .pending) s)) (at .0);
         cleared = held-emptied q;
         used = f .used;
       })
@@ -192,7 +192,7 @@ pub ascii-takes : TakesTheFirst modbusAscii
 ascii-takes c sound p bytes room h t (y, ts, r, e) = takes-it modbusAscii asciiStream ascii-streamed c p (ascii-begun c sound p) bytes room h y r t ts e
 
 -- ---- "An RTU call uses all, save at 10"
-pub rtu-used : (c : Card) → protocolOf c ≡ 1 → (frame : List ℕ) (room : ℕ) → replyLeast ≤ room → received c frame room .used ≡ length frame
+pub rtu-used : (c : Card) → protocolOf c ≡ 1 → (frame : List ℕ) (room : ℕ) → LongEnough c room → received c frame room .used ≡ length frame
 unfolding rtuReceived
 rtu-used c p frame room h =
-    ap (λ (r : Received). r .used) (by-rtu c frame room p) ∙ simp (le-ltb room replyLeast h) (pick-both (λ (r : Received). r .used ≡ length frame) (frameHolds frame) (λ _. refl) (λ _. refl))
+    ap (λ (r : Received). r .used) (by-rtu c frame room p) ∙ simp (le-ltb room rtuLeast (enough-rtu c room p h)) (pick-both (λ (r : Received). r .used ≡ length frame) (frameHolds frame) (λ _. refl) (λ _. refl))

@@ -13,7 +13,7 @@ use Rattle.base.specs.Choice.{either}
 use Rattle.base.proofs.Tests.{both-out, both-in, pick-both}
 use Rattle.checks.specs.Crc.{bodyOf, crcHolds}
 use Rattle.modbus_words.specs.Words.{wordAt}
-use Rattle.modbus.specs.Request.{label, span, between, reads, writes, asked, requestOf}
+use Rattle.modbus.specs.Request.{label, span, between, reads, writes, asked, askedOf}
 use Rattle.modbus.specs.declared.requests.Request.{Request}
 use Rattle.modbus.specs.declared.requests.Request.the-variants.{One, Many}
 use Rattle.modbus.proofs.Laws.{asked-one, asked-many, request-read}
@@ -32,7 +32,7 @@ unfolding wordAt
 unit-word f h = ap₂ (λ (a b : ℕ). 256 * a + b) (unit-at f 3 (omega arith)) (unit-at f 4 (omega arith))
 
 -- what a frame that holds asks tells where its register data lies
-of-request : (f : List ℕ) (q : Request) → frameHolds f ≡ true → q ≡ requestOf (unitIn f) → partOf (dataOf q) f ≡ registerData f
+of-request : (f : List ℕ) (q : Request) → frameHolds f ≡ true → q ≡ askedOf (unitIn f) → partOf (dataOf q) f ≡ registerData f
 of-request f q h e = data-told f (dataOf q) (span-held f (unitIn f) q (dataOf q) h refl e refl)
 
 writes-in : (size n : ℕ) → Within 1 123 n → size ≡ 6 + 2 * n → writes size n (2 * n) ≡ true
@@ -64,7 +64,7 @@ others-none size function register n bytes no-06 no-16 =
 of-06 : (f : List ℕ) → WellMade06 f → registerData f ≡ take 2 (drop 4 f)
 of-06 f (h, function, size) =
     let u = unitIn f in
-    let asks : One (label (wordAt u 1)) (wordAt u 3) ≡ requestOf u =
+    let asks : One (label (wordAt u 1)) (wordAt u 3) ≡ askedOf u =
     request-read u 6 (wordAt u 1) (wordAt u 3) (getD u 5 0) _ (sym (unit-at f 0 (omega arith) ∙ function)) refl refl refl
     (asked-one (length u) 6 (wordAt u 1) (wordAt u 3) (getD u 5 0) refl (omega (arith, unit-length f))) in
     sym (of-request f _ h asks)
@@ -72,7 +72,7 @@ of-06 f (h, function, size) =
 of-16 : (f : List ℕ) (n : ℕ) → WellMade16 f n → registerData f ≡ take (2 * n) (drop 7 f)
 of-16 f n (h, function, count, within, bytes, size) =
     let u = unitIn f in
-    let asks : Many (label (wordAt u 1)) n (span 6 (6 + 2 * n)) ≡ requestOf u =
+    let asks : Many (label (wordAt u 1)) n (span 6 (6 + 2 * n)) ≡ askedOf u =
     request-read u 16 (wordAt u 1) n (2 * n) _ (sym (unit-at f 0 (omega arith) ∙ function)) refl (sym (unit-word f (omega arith) ∙ count))
     (sym (unit-at f 5 (omega arith) ∙ bytes))
     (asked-many (length u) 16 (wordAt u 1) n (2 * n) refl true (sym (writes-in (length u) n within (omega (arith, unit-length f)))) refl) in
@@ -80,7 +80,7 @@ of-16 f n (h, function, count, within, bytes, size) =
     sym (of-request f _ h asks) ∙ ap (λ (k : ℕ). take k (drop 7 f)) part
 
 of-others : (f : List ℕ) → (WellMade06 f → ⊥) → ((n : ℕ) → WellMade16 f n → ⊥) → registerData f ≡ []
-unfolding frameHolds requestOf
+unfolding frameHolds askedOf
 of-others f no-06 no-16 = go (frameHolds f) refl
   where
     u : List ℕ
@@ -92,7 +92,7 @@ of-others f no-06 no-16 = go (frameHolds f) refl
         let long : 4 ≤ length f = leb-true 4 (length f) (both-out (leb 4 (length f)) (leb (length f) 256) (both-out (between 4 256 (length f)) (crcHolds f) e .0) .0) in
         let function : getD u 0 0 ≡ getD f 1 0 = unit-at f 0 (omega arith) in
         let n : ℕ = wordAt u 3 in
-        sym (of-request f (requestOf u) e refl)
+        sym (of-request f (askedOf u) e refl)
         ∙ ap (λ s. partOf s f)
         (others-none (length u) (getD u 0 0) (wordAt u 1) n (getD u 5 0) (λ p q. no-06 (e, sym function ∙ p, omega (arith, unit-length f, q)))
         (λ p q.

@@ -1,5 +1,5 @@
--- What holds of each of the four things that a message can come to, holds of every message of either protocol: nothing is done, a row is told, a row is written,
--- or the broadcast stop. So a message leaves the port's protocol as it is. Assumes nothing.
+-- What holds of each of the five things that a message can come to, holds of every message of either protocol: nothing is done, a row is told, a row is written,
+-- a part of the identity is told, or the broadcast stop. So a message leaves the port's protocol as it is. Assumes nothing.
 use mathlib.Core.Path.{_≡_, refl}
 use mathlib.Core.Bool.{Bool, true, false, not}
 use mathlib.Core.List.{List, [], _∷_}
@@ -12,6 +12,9 @@ use Rattle.base.specs.Order.{when, firstOf, saying}
 use Rattle.base.proofs.Tests.{pick-both}
 use Rattle.table.specs.Names.{Inv-St-ack, Inv-St, SioErr}
 use Rattle.table.specs.declared.labels.Row.{Row}
+use Rattle.identity.specs.Identity.{objectsAsked}
+use Rattle.identity.specs.declared.Part.{Part}
+use Rattle.identity.specs.declared.Part.the-variants as Parts
 use Rattle.port.specs.Port.{Numbers, ProtocolAt, Sum, Sioerr, protocol, withSum, withSioerr}
 use Rattle.drive.specs.Plant.{Plant, station}
 use Rattle.answers.specs.declared.Answer.{Answer}
@@ -27,25 +30,27 @@ use Rattle.nfo_service.specs.Serve as Nfo
 use Rattle.modbus_words.specs.Words.{longAt}
 use Rattle.modbus.specs.Request.{requestOf}
 use Rattle.modbus.specs.declared.requests.Request.{Request}
-use Rattle.modbus.specs.declared.requests.Request.the-variants.{Read, One, Many, Malformed, Unknown}
+use Rattle.modbus.specs.declared.requests.Request.the-variants.{Read, One, Many, Identify, Serial, Malformed, Unknown}
 use Rattle.modbus_service.specs.Serve as Modbus
 use Rattle.turn.specs.Turn.{portAfter}
 
--- what a message can come to: outcome 1 or a refusal, and then nothing changes; a row told; a row written, or refused; over NFO serial the broadcast stop
+-- what a message can come to: outcome 1 or a refusal, and then nothing changes; a row told; a row written, or refused; over Modbus a part
+-- of the identity told, and nothing changes; over NFO serial the broadcast stop
 pub data Came (p : Plant) (q : Numbers) : (nfo : Bool) → Served → Type 0 where
   not-ours : {nfo : Bool} → Came p q nfo (keeping p q Answers.NotOurs)
   refused : {nfo : Bool} (x : Refusal) → Came p q nfo (keeping p q (Answers.Refused x))
   told-row : {nfo : Bool} (row : Row) → Came p q nfo (toldServed p q row)
   wrote-row : {nfo : Bool} (row w : ℕ) → Came p q nfo (wroteServed p q row w)
+  identified : (part : Part) → Came p q false (keeping p q (Answers.Identified part))
   stop : (adr : ℕ) (row : Row) (w : ℕ) → Nfo.stops p adr (row .0) w ≡ true → Came p q true (Nfo.stopServed p q row w)
 
 module _ (p : Plant) (q : Numbers) where
-  abbrev Serial : Served → Type 0
-  Serial s = Came p q true s
+  abbrev OfNfo : Served → Type 0
+  OfNfo s = Came p q true s
 
-  named : (reaches : Bool) (none : Bool) (x : Served) → Serial x
-      → Serial (firstOf (saying (keeping p q) (when (not reaches) Answers.NotOurs ∷ when none (Answers.Refused Refusals.NoRow) ∷ [])) x)
-  named reaches none x k = pick-both Serial (not reaches) (λ _. not-ours) (λ _. pick-both Serial none (λ _. refused Refusals.NoRow) (λ _. k))
+  named : (reaches : Bool) (none : Bool) (x : Served) → OfNfo x
+      → OfNfo (firstOf (saying (keeping p q) (when (not reaches) Answers.NotOurs ∷ when none (Answers.Refused Refusals.NoRow) ∷ [])) x)
+  named reaches none x k = pick-both OfNfo (not reaches) (λ _. not-ours) (λ _. pick-both OfNfo none (λ _. refused Refusals.NoRow) (λ _. k))
 
   pub nfo-came : (m : Message) → Came p q true (Nfo.served p q m)
   unfolding Nfo.served Nfo.enquiryServed Nfo.selectServed Nfo.rowSelected
@@ -53,15 +58,17 @@ module _ (p : Plant) (q : Numbers) where
   nfo-came (Select adr e v) =
       let row : Row = theRow (Nfo.rowNamed e) in
       named (Nfo.reachesUs p adr) (isNone (Nfo.rowNamed e)) (Nfo.rowSelected p q adr row v)
-      (pick-both Serial (readOnly (row .0)) (λ _. refused Refusals.ReadOnly)
-      (λ _. pick-both Serial (Nfo.notHex v) (λ _. refused Refusals.Malformed)
-      (λ _. pick-both Serial (Nfo.stops p adr (row .0) (Nfo.theWord v)) (λ t. stop adr row (Nfo.theWord v) t) (λ _. wrote-row (row .0) (Nfo.theWord v)))))
+      (pick-both OfNfo (readOnly (row .0)) (λ _. refused Refusals.ReadOnly)
+      (λ _. pick-both OfNfo (Nfo.notHex v) (λ _. refused Refusals.Malformed)
+      (λ _. pick-both OfNfo (Nfo.stops p adr (row .0) (Nfo.theWord v)) (λ t. stop adr row (Nfo.theWord v) t) (λ _. wrote-row (row .0) (Nfo.theWord v)))))
 
   task-came : (row : Row) (r : Request) (u : List ℕ) → Came p q false (Modbus.done p q (Modbus.taskAt row r u))
   unfolding Modbus.done
   task-came row (Read f register n) u = told-row row
   task-came row (One register w) u = wrote-row (row .0) w
   task-came row (Many register n place) u = wrote-row (row .0) (longAt u (place .from))
+  task-came row (Identify code object) u = identified (Modbus.thePart (objectsAsked code object))
+  task-came row Serial u = identified Parts.Serial
   task-came row (Malformed f) u = told-row row
   task-came row (Unknown f) u = told-row row
 
@@ -72,7 +79,7 @@ module _ (p : Plant) (q : Numbers) where
       (λ _. pick-both (λ t. Came p q false (Modbus.done p q t)) (Modbus.isUnknown r) (λ _. refused Refusals.NoFunction)
       (λ _. pick-both (λ t. Came p q false (Modbus.done p q t)) (both (Modbus.toAll a) (Modbus.asksRead r)) (λ _. not-ours)
       (λ _. pick-both (λ t. Came p q false (Modbus.done p q t)) (Modbus.isMalformed r) (λ _. refused Refusals.Malformed)
-      (λ _. pick-both (λ t. Came p q false (Modbus.done p q t)) (isNone (Modbus.rowAsked r)) (λ _. refused Refusals.NoRow) (λ _. task-came (theRow (Modbus.rowAsked r)) r u)))))
+      (λ _. pick-both (λ t. Came p q false (Modbus.done p q t)) (Modbus.asksNothing r) (λ _. refused Refusals.NoRow) (λ _. task-came (theRow (Modbus.rowAsked r)) r u)))))
 
   pub modbus-came : (a : ℕ) (u : List ℕ) → Came p q false (Modbus.served p q a u)
   unfolding Modbus.served
@@ -99,6 +106,7 @@ module _ (Q : Served → Type 0) (p : Plant) (q : Numbers) (kept : (a : Answer) 
       go (refused x) = kept (Answers.Refused x)
       go (told-row row) = tells row
       go (wrote-row row w) = writes row w
+      go (identified part) = kept (Answers.Identified part)
 
 -- ---- the port's protocol
 sum-speaks : (x : ℕ) (q : Numbers) → protocol (withSum x q) ≡ protocol q
@@ -110,6 +118,7 @@ sioerr-speaks x q = getD-set-other q Sioerr ProtocolAt x 0 (λ e. absurd (omega 
 pub after-speaks : (a : Answer) (q : Numbers) → protocol (portAfter a q) ≡ protocol q
 after-speaks (Answers.Told row word) q = sum-speaks 0 q
 after-speaks (Answers.Written change) q = sum-speaks 0 q
+after-speaks (Answers.Identified part) q = sum-speaks 0 q
 after-speaks Answers.NotOurs q = refl
 after-speaks (Answers.Refused refusal) q = sum-speaks 0 q
 

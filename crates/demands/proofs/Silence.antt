@@ -291,7 +291,7 @@ pub silence-stops : SilenceStops
 unfolding started Plants.started startWords rows handedOver ticksOf
 silence-stops =
     record {
-      start = λ protocol. refl;
+      start = λ protocol i. refl;
       stops =
           λ c d tenths sized numbers at-3 some silence more.
           stopped (getD (c .plant) SioTot 0) d

@@ -2,7 +2,7 @@
 use mathlib.Core.Path.{_≡_, refl}
 use mathlib.Core.Bool.{true}
 use mathlib.Core.List.{List}
-use Prim.Native.Nat.{ℕ}
+use Prim.Native.Nat.{ℕ, _≤_}
 use native.Mathlib.Omega.{arith}
 use Rattle.stream.specs.Format.{Lawful}
 use Rattle.stream.specs.Theorem.{StreamTheorem}
@@ -23,8 +23,8 @@ use Rattle.turn.specs.Stream.{Stream, streamed}
 use Rattle.nfo_port.specs.Receive.{nfoStream, nfoReceived}
 use Rattle.ascii_port.specs.Receive.{asciiStream, asciiReceived}
 use Rattle.receive.specs.Receive.{received}
-use Rattle.receive.proofs.Laws.{by-nfo, by-ascii}
-use Rattle.demands.specs.Calls.{Wire, Speaks, nfoSerial, modbusAscii, besides}
+use Rattle.receive.proofs.Laws.{by-nfo, by-ascii, enough-nfo, enough-ascii}
+use Rattle.demands.specs.Calls.{LongEnough, Wire, Speaks, nfoSerial, modbusAscii, besides}
 use Rattle.demands.proofs.Serving.{nfo-speaks, modbus-speaks}
 
 -- what makes a protocol one that comes as a stream
@@ -33,6 +33,7 @@ pub record Streamed (P : Wire) (S : Stream) : Type 0 where
   pub theory : StreamTheorem (P .format)
   pub follows : Follows (P .format) (S .feeding)
   pub calls : (c : Card) (x : List ℕ) (room : ℕ) → Speaks P c → received c x room ≡ streamed S c x room
+  pub enough : (c : Card) (room : ℕ) → Speaks P c → LongEnough c room → S .least ≤ room
   -- a message leaves the port's protocol as it is
   pub speaks : (c : Card) (q : Pending) → protocol (S .served c q .port) ≡ protocolOf c
   -- a message that is held is served as its bytes are
@@ -54,6 +55,7 @@ nfo-streamed =
       theory = nfo-stream;
       follows = nfo-follows;
       calls = nfo-calls;
+      enough = enough-nfo;
       speaks = λ c q. nfo-speaks (c .plant) (c .port .numbers) _;
       takes = λ c q size w. rw (Alone.message-held q w) (refl, refl);
       same = λ c q r. (refl, refl);
@@ -76,6 +78,7 @@ ascii-streamed =
       theory = ascii-stream;
       follows = ascii-follows;
       calls = ascii-calls;
+      enough = enough-ascii;
       speaks = ascii-speaks;
       takes = λ c q size w. rw (message-held q w) (refl, refl);
       same = λ c q r. (refl, refl);

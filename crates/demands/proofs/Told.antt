@@ -23,6 +23,7 @@ use Rattle.nfo_parts.specs.declared.message.Parameter.{Parameter}
 use Rattle.nfo.proofs.Shape.{whole-at}
 use Rattle.nfo.proofs.Lawful.{formed-shape, nfo-stream}
 use Rattle.nfo_service.specs.Reply.{adrIn, parameterIn, eNumberIn, repliedBy, replied}
+use Rattle.nfo_service.proofs.Replies.{NoPart, no-part}
 use Rattle.master_nfo.specs.Replies as Heard
 use Rattle.master_nfo.specs.Replies.{replyNumber, reply, ack, nak, checked, readOf}
 use Rattle.master_nfo.proofs.Answered.{reply-read, ack-read, nak-read}
@@ -67,23 +68,24 @@ unfolding readOf Heard.replied reply ack nak whole checked
 silence = refl
 
 module _ (m : List ℕ) (one : serial .toAll m ≡ false) (n : Named (messageOf m)) where
-  by-answer : (a : Answer) → AnswerHeard serial m a (repliedBy (adrIn (messageOf m)) (eNumberIn (parameterIn (messageOf m))) a)
+  by-answer : (a : Answer) → NoPart a → AnswerHeard serial m a (repliedBy (adrIn (messageOf m)) (eNumberIn (parameterIn (messageOf m))) a)
   unfolding repliedBy
-  by-answer (Answers.Told row word) =
+  by-answer (Answers.Told row word) k =
       answered serial m (Answers.Told row word) _ replyNumber silence refl one (λ e. told-not-1 (ap answerNumber e)) (reply-read (adrIn (messageOf m)) (eNumberIn (parameterIn (messageOf m))) (word % 65536) (n .0) (n .1) (omega arith))
-  by-answer (Answers.Written change) =
+  by-answer (Answers.Written change) k =
       answered serial m (Answers.Written change) _ replyNumber silence refl one (λ e. told-not-1 (ap answerNumber e)) (ack-read (adrIn (messageOf m)) (n .0))
-  by-answer Answers.NotOurs = unanswered serial m Answers.NotOurs [] (inr refl) refl
-  by-answer (Answers.Refused x) =
+  by-answer (Answers.Identified part) k = absurd k
+  by-answer Answers.NotOurs k = unanswered serial m Answers.NotOurs [] (inr refl) refl
+  by-answer (Answers.Refused x) k =
       answered serial m (Answers.Refused x) _ replyNumber silence refl one (λ e. refused-not-1 x (ap answerNumber e)) (nak-read (adrIn (messageOf m)) (n .0))
 
-pub told-back : (m : List ℕ) → formed m ≡ true → (a : Answer) → AnswerHeard serial m a (replied (messageOf m) a)
+pub told-back : (m : List ℕ) → formed m ≡ true → (a : Answer) → NoPart a → AnswerHeard serial m a (replied (messageOf m) a)
 unfolding replied
-told-back m w a = pick-both (AnswerHeard serial m a) (eqb (adrIn (messageOf m)) 0x7F) (λ e. unanswered serial m a [] (inl e) refl) (λ e. by-answer m e (named m w) a)
+told-back m w a k = pick-both (AnswerHeard serial m a) (eqb (adrIn (messageOf m)) 0x7F) (λ e. unanswered serial m a [] (inl e) refl) (λ e. by-answer m e (named m w) a k)
 
 -- ---- a call's reply
 pub serial-answers : AnswersFirst nfoSerial serial
 serial-answers c sound p bytes room h t first a e =
     let k = nfo-takes c sound p bytes room h t first in
     let is : a ≡ nfoSerial .served c (t .bytes) .answer = one-answer a _ _ e (k .outcome) in
-    subst (AnswerHeard serial (t .bytes) a) (ap (replied (messageOf (t .bytes))) is ∙ sym (k .reply)) (told-back (t .bytes) (first-formed nfoSerial nfo-stream c bytes t first) a)
+    subst (AnswerHeard serial (t .bytes) a) (ap (replied (messageOf (t .bytes))) is ∙ sym (k .reply)) (told-back (t .bytes) (first-formed nfoSerial nfo-stream c bytes t first) a (subst NoPart (sym is) (no-part (c .plant) (c .port .numbers) (messageOf (t .bytes)))))

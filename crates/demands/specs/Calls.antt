@@ -16,7 +16,7 @@ use Rattle.card.specs.declared.state.Card.{Card}
 use Rattle.turn.specs.Turn.{Received, answered}
 use Rattle.nfo_port.specs.Receive.{servedBy}
 use Rattle.ascii_port.specs.Receive.{exchangeOn, replyOn}
-pub use Rattle.receive.specs.Calls.{Course, Calls, over, call, adding, ended}
+pub use Rattle.receive.specs.Calls.{LongEnough, Course, Calls, over, call, adding, ended}
 
 -- ---- the two protocols that come as streams
 -- a protocol that comes as a stream: its number in the port, its format, and what a message comes to: what is served, and the reply
@@ -49,7 +49,7 @@ besides c = withPending empty c
 -- ---- messages
 -- one message of it on a card
 abbrev pub message : Wire → Card → List ℕ → Received
-message W c m = answered (c .port .pending) 0 (W .served c m) (W .reply c m)
+message W c m = answered (c .identity) (c .port .pending) 0 (W .served c m) (W .reply c m)
 
 -- the messages served one after another
 unfoldable pub servedAll : Wire → Card → List (List ℕ) → Course

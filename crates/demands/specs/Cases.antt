@@ -1,5 +1,5 @@
--- Document 01's ★ cases and case 9, the errors that it says to rule out, small letters, an exchange of RTU, a 32-bit row written and read back over ASCII, and the
--- time-out that is on from the start: one table, one statement. "Fresh start, address 1, unless said". Assumes nothing.
+-- Document 01's ★ cases and case 9, the errors that it says to rule out, small letters, an exchange of RTU, a 32-bit row written and read back over ASCII, the
+-- time-out that is on from the start, and the card's identity: one table, one statement. "Fresh start, address 1, unless said". Assumes nothing.
 use mathlib.Core.Path.{_≡_}
 use mathlib.Core.Bool.{true}
 use mathlib.Core.List.{List, [], _∷_, _++_, map}
@@ -7,13 +7,14 @@ use Prim.Native.Nat.{ℕ, zero, suc, _^_}
 use lib.ListN.{drop}
 use Rattle.base.specs.Buffers.{replyLeast}
 use Rattle.hex.specs.Hex.{hexOf}
+use Rattle.identity.specs.Identity.{Identity}
 use Rattle.drive.specs.Plant as Plant
 use Rattle.card.specs.declared.state.Card.{Card}
 use Rattle.card.specs.declared.state.Protocol.{Protocol}
 use Rattle.card.specs.declared.state.Protocol.the-variants.{Nfo, Rtu, Ascii}
 use Rattle.card.specs.declared.outcome.Outcome.{Outcome}
 use Rattle.card.specs.declared.outcome.Outcome.the-variants.{Done, Served, ShortBuffer, BadFrame, NoSuchEvent, NothingTaken}
-use Rattle.card.specs.State.{started, restarted}
+use Rattle.card.specs.State.{protocolOf, started, restarted}
 use Rattle.card.specs.Events.{faultRaised, causeEnded, din1Set, ticked}
 use Rattle.card.specs.Outcome.{outcomeNumber}
 use Rattle.turn.specs.Turn.{Received}
@@ -50,10 +51,10 @@ saying BadFrame reply later = later
 saying NoSuchEvent reply later = later
 saying NothingTaken reply later = later
 
--- so many calls of `receive`, with a reply buffer of 19 bytes, each on the rest that the one before left; then what comes later
+-- so many calls of `receive`, with a reply buffer just long enough, each on the rest that the one before left; then what comes later
 abbrev pub called : ℕ → Card → List ℕ → (Card → Shown) → Shown
 called zero c bytes later = later c
-called (suc n) c bytes later = let r : Received = received c bytes replyLeast in saying (r .outcome) (r .reply) (called n (r .card) (drop (r .used) bytes) later)
+called (suc n) c bytes later = let r : Received = received c bytes (replyLeast (protocolOf c)) in saying (r .outcome) (r .reply) (called n (r .card) (drop (r .used) bytes) later)
 
 -- one after another; bytes by four calls
 abbrev pub shown : List Event → Card → Shown
@@ -146,9 +147,19 @@ read-1 = 0x30 ∷ 0x31 ∷ 0x30 ∷ 0x33 ∷ []
 abbrev pub refused-1 : List ℕ
 refused-1 = 0x30 ∷ 0x31 ∷ 0x38 ∷ 0x33 ∷ []
 
+-- ---- who the card is: revision `1.0.3 of November`, model `VW-95/07`, and a serial number with a zero byte in it
+abbrev pub who : Identity
+who =
+    0x31 ∷ 0x2E ∷ 0x30 ∷ 0x2E ∷ 0x33 ∷ 0x20 ∷ 0x6F ∷ 0x66 ∷ 0x20 ∷ 0x4E ∷ 0x6F ∷ 0x76 ∷ 0x65 ∷ 0x6D ∷ 0x62 ∷ 0x65 ∷ 0x72
+    ∷ 0x56 ∷ 0x57 ∷ 0x2D ∷ 0x39 ∷ 0x35 ∷ 0x2F ∷ 0x30 ∷ 0x37
+    ∷ 0x30 ∷ 0x30 ∷ 0x34 ∷ 0x32 ∷ 0x00 ∷ 0x41 ∷ 0x42 ∷ 0x43 ∷ 0x44 ∷ 0x45 ∷ 0x46 ∷ 0x47 ∷ 0x48 ∷ 0x49 ∷ 0x4A ∷ 0x4B ∷ []
+
+abbrev pub fresh : Protocol → Card
+fresh protocol = started protocol who
+
 -- fault 1 was raised and its cause has ended, so that a read of 00E8 or 02A4h would acknowledge it
 abbrev pub faulted : Protocol → Card
-faulted protocol = causeEnded 1 (faultRaised 1 (started protocol) .card) .card
+faulted protocol = causeEnded 1 (faultRaised 1 (fresh protocol) .card) .card
 
 -- ---- the table: the card before, what comes to it, and what is said of that
 pub record Case : Type 0 where
@@ -158,13 +169,13 @@ pub record Case : Type 0 where
 
 -- of a fresh card and some bytes, no flag afterwards
 abbrev pub case : List ℕ → List Said → Case
-case m right = record { card = started Nfo; events = came m ∷ []; right = showing right 0 }
+case m right = record { card = fresh Nfo; events = came m ∷ []; right = showing right 0 }
 
 abbrev pub rtu : List ℕ → List Said → Case
-rtu m right = record { card = started Rtu; events = came m ∷ []; right = showing right 0 }
+rtu m right = record { card = fresh Rtu; events = came m ∷ []; right = showing right 0 }
 
 abbrev pub ascii : List ℕ → List Said → Case
-ascii m right = record { card = started Ascii; events = came m ∷ []; right = showing right 0 }
+ascii m right = record { card = fresh Ascii; events = came m ∷ []; right = showing right 0 }
 
 -- a broadcast read, where fault 1 could be acknowledged: outcome 1, no reply, and flag 1 stands
 abbrev pub broadcast-read : Protocol → List ℕ → Case
@@ -172,7 +183,7 @@ broadcast-read protocol m = record { card = faulted protocol; events = came m �
 
 -- a fresh card on NFO serial to which MODE 3 is written, and the flags that stand after what comes then
 abbrev pub at-mode-3 : List Event → List Said → ℕ → Case
-at-mode-3 events right flags = record { card = started Nfo; events = came mode-3 ∷ events; right = showing (says 0 ack ∷ right) flags }
+at-mode-3 events right flags = record { card = fresh Nfo; events = came mode-3 ∷ events; right = showing (says 0 ack ∷ right) flags }
 
 unfoldable pub cases : List Case
 cases =
@@ -231,7 +242,7 @@ cases =
     ∷ at-mode-3 (tick 50 ∷ tick 1 ∷ came (ask-status ++ (ask-scmd ++ ask-sio-err)) ∷ []) (says 0 status-14 ∷ says 0 scmd-0 ∷ says 0 sio-err-1 ∷ []) 0
     -- the motor that ran stands
     ∷ record {
-      card = din1Set true (started Nfo) .card;
+      card = din1Set true (fresh Nfo) .card;
       events = came (mode-3 ++ (scmd-129 ++ ask-status)) ∷ tick 50 ∷ tick 1 ∷ came (ask-status ++ ask-scmd) ∷ [];
       right = showing (says 0 ack ∷ says 0 ack ∷ says 0 status-38 ∷ says 0 status-14 ∷ says 0 scmd-0 ∷ []) (2 ^ 14);
     }
@@ -245,13 +256,62 @@ cases =
     ∷ at-mode-3 (came sio-tot-10 ∷ restart ∷ came mode-3 ∷ tick 11 ∷ []) (says 0 ack ∷ says 0 ack ∷ []) (2 ^ 14)
     -- over RTU: MODE 3, a frame whose CRC is wrong ("or 11"), and 14 is told
     ∷ record {
-      card = started Rtu;
+      card = fresh Rtu;
       events =
           came (0x01 ∷ 0x06 ∷ 0x02 ∷ 0x94 ∷ 0x00 ∷ 0x03 ∷ 0x89 ∷ 0x9F ∷ []) ∷ tick 50 ∷ came (0x01 ∷ 0x06 ∷ 0x02 ∷ 0x94 ∷ 0x00 ∷ 0x03 ∷ 0x89 ∷ 0x9E ∷ []) ∷ tick 1
           ∷ came (0x01 ∷ 0x03 ∷ 0x02 ∷ 0xA5 ∷ 0x00 ∷ 0x01 ∷ 0x95 ∷ 0x91 ∷ []) ∷ [];
       right =
           showing (says 0 (0x01 ∷ 0x06 ∷ 0x02 ∷ 0x94 ∷ 0x00 ∷ 0x03 ∷ 0x89 ∷ 0x9F ∷ []) ∷ says 0 (0x01 ∷ 0x03 ∷ 0x02 ∷ 0x00 ∷ 0x0E ∷ 0x39 ∷ 0x80 ∷ []) ∷ []) (2 ^ 14);
     }
+    -- "Who are you?" Over RTU, by function 43, type 14:
+    -- code 01, object 00h: up to 02h
+    ∷ rtu (0x01 ∷ 0x2B ∷ 0x0E ∷ 0x01 ∷ 0x00 ∷ 0x70 ∷ 0x77 ∷ [])
+    (says 0 (0x01 ∷ 0x2B ∷ 0x0E ∷ 0x01 ∷ 0x82 ∷ 0x00 ∷ 0x00 ∷ 0x03 ∷ 0x00 ∷ 0x11 ∷ 0x56 ∷ 0x61 ∷ 0x6C ∷ 0x6C ∷ 0x65 ∷ 0x79 ∷ 0x20 ∷ 0x57 ∷ 0x61 ∷ 0x74 ∷ 0x65 ∷ 0x72 ∷ 0x20 ∷ 0x43 ∷ 0x61 ∷ 0x72 ∷ 0x64 ∷ 0x01 ∷ 0x00 ∷ 0x02 ∷ 0x11 ∷ 0x31 ∷ 0x2E ∷ 0x30 ∷ 0x2E ∷ 0x33 ∷ 0x20 ∷ 0x6F ∷ 0x66 ∷ 0x20 ∷ 0x4E ∷ 0x6F ∷ 0x76 ∷ 0x65 ∷ 0x6D ∷ 0x62 ∷ 0x65 ∷ 0x72 ∷ 0x00 ∷ 0x69 ∷ []) ∷ [])
+    -- code 02, object 05h: up to 06h
+    ∷ rtu (0x01 ∷ 0x2B ∷ 0x0E ∷ 0x02 ∷ 0x05 ∷ 0xB0 ∷ 0x84 ∷ [])
+    (says 0 (0x01 ∷ 0x2B ∷ 0x0E ∷ 0x02 ∷ 0x82 ∷ 0x00 ∷ 0x00 ∷ 0x02 ∷ 0x05 ∷ 0x08 ∷ 0x56 ∷ 0x57 ∷ 0x2D ∷ 0x39 ∷ 0x35 ∷ 0x2F ∷ 0x30 ∷ 0x37 ∷ 0x06 ∷ 0x00 ∷ 0x08 ∷ 0xAE ∷ []) ∷ [])
+    -- code 02, object 07h, which lies outside: from 00h
+    ∷ rtu (0x01 ∷ 0x2B ∷ 0x0E ∷ 0x02 ∷ 0x07 ∷ 0x31 ∷ 0x45 ∷ [])
+    (says 0 (0x01 ∷ 0x2B ∷ 0x0E ∷ 0x02 ∷ 0x82 ∷ 0x00 ∷ 0x00 ∷ 0x07 ∷ 0x00 ∷ 0x11 ∷ 0x56 ∷ 0x61 ∷ 0x6C ∷ 0x6C ∷ 0x65 ∷ 0x79 ∷ 0x20 ∷ 0x57 ∷ 0x61 ∷ 0x74 ∷ 0x65 ∷ 0x72 ∷ 0x20 ∷ 0x43 ∷ 0x61 ∷ 0x72 ∷ 0x64 ∷ 0x01 ∷ 0x00 ∷ 0x02 ∷ 0x11 ∷ 0x31 ∷ 0x2E ∷ 0x30 ∷ 0x2E ∷ 0x33 ∷ 0x20 ∷ 0x6F ∷ 0x66 ∷ 0x20 ∷ 0x4E ∷ 0x6F ∷ 0x76 ∷ 0x65 ∷ 0x6D ∷ 0x62 ∷ 0x65 ∷ 0x72 ∷ 0x03 ∷ 0x00 ∷ 0x04 ∷ 0x09 ∷ 0x4C ∷ 0x69 ∷ 0x6E ∷ 0x65 ∷ 0x20 ∷ 0x63 ∷ 0x61 ∷ 0x72 ∷ 0x64 ∷ 0x05 ∷ 0x08 ∷ 0x56 ∷ 0x57 ∷ 0x2D ∷ 0x39 ∷ 0x35 ∷ 0x2F ∷ 0x30 ∷ 0x37 ∷ 0x06 ∷ 0x00 ∷ 0x2F ∷ 0x65 ∷ []) ∷ [])
+    -- code 04, object 04h; object 07h: 2
+    ∷ rtu (0x01 ∷ 0x2B ∷ 0x0E ∷ 0x04 ∷ 0x04 ∷ 0x72 ∷ 0xE4 ∷ [])
+    (says 0 (0x01 ∷ 0x2B ∷ 0x0E ∷ 0x04 ∷ 0x82 ∷ 0x00 ∷ 0x00 ∷ 0x01 ∷ 0x04 ∷ 0x09 ∷ 0x4C ∷ 0x69 ∷ 0x6E ∷ 0x65 ∷ 0x20 ∷ 0x63 ∷ 0x61 ∷ 0x72 ∷ 0x64 ∷ 0xF3 ∷ 0x8D ∷ []) ∷ [])
+    ∷ rtu (0x01 ∷ 0x2B ∷ 0x0E ∷ 0x04 ∷ 0x07 ∷ 0x32 ∷ 0xE5 ∷ [])
+    (says 2 (0x01 ∷ 0xAB ∷ 0x02 ∷ 0xDE ∷ 0xF1 ∷ []) ∷ [])
+    -- code 03: 8; type 13: 9; no type byte: 8
+    ∷ rtu (0x01 ∷ 0x2B ∷ 0x0E ∷ 0x03 ∷ 0x00 ∷ 0x71 ∷ 0x17 ∷ [])
+    (says 8 (0x01 ∷ 0xAB ∷ 0x03 ∷ 0x1F ∷ 0x31 ∷ []) ∷ [])
+    ∷ rtu (0x01 ∷ 0x2B ∷ 0x0D ∷ 0x01 ∷ 0x00 ∷ 0x80 ∷ 0x77 ∷ [])
+    (says 9 (0x01 ∷ 0xAB ∷ 0x01 ∷ 0x9E ∷ 0xF0 ∷ []) ∷ [])
+    ∷ rtu (0x01 ∷ 0x2B ∷ 0x40 ∷ 0x3F ∷ [])
+    (says 8 (0x01 ∷ 0xAB ∷ 0x03 ∷ 0x1F ∷ 0x31 ∷ []) ∷ [])
+    -- 17: the serial number, with its zero byte; a byte more: 8
+    ∷ rtu (0x01 ∷ 0x11 ∷ 0xC0 ∷ 0x2C ∷ [])
+    (says 0 (0x01 ∷ 0x11 ∷ 0x10 ∷ 0x30 ∷ 0x30 ∷ 0x34 ∷ 0x32 ∷ 0x00 ∷ 0x41 ∷ 0x42 ∷ 0x43 ∷ 0x44 ∷ 0x45 ∷ 0x46 ∷ 0x47 ∷ 0x48 ∷ 0x49 ∷ 0x4A ∷ 0x4B ∷ 0xDB ∷ 0xFD ∷ []) ∷ [])
+    ∷ rtu (0x01 ∷ 0x11 ∷ 0x00 ∷ 0x2C ∷ 0x50 ∷ [])
+    (says 8 (0x01 ∷ 0x91 ∷ 0x03 ∷ 0x0D ∷ 0x91 ∷ []) ∷ [])
+    -- "Both functions are reads, so a broadcast of them is outcome 1"; type 13 is 9, without reply
+    ∷ rtu (0x00 ∷ 0x2B ∷ 0x0E ∷ 0x01 ∷ 0x00 ∷ 0x4D ∷ 0xB7 ∷ []) (says 1 [] ∷ [])
+    ∷ rtu (0x00 ∷ 0x2B ∷ 0x0E ∷ 0x02 ∷ 0x05 ∷ 0x8D ∷ 0x44 ∷ []) (says 1 [] ∷ [])
+    ∷ rtu (0x00 ∷ 0x2B ∷ 0x0E ∷ 0x02 ∷ 0x07 ∷ 0x0C ∷ 0x85 ∷ []) (says 1 [] ∷ [])
+    ∷ rtu (0x00 ∷ 0x2B ∷ 0x0E ∷ 0x04 ∷ 0x04 ∷ 0x4F ∷ 0x24 ∷ []) (says 1 [] ∷ [])
+    ∷ rtu (0x00 ∷ 0x2B ∷ 0x0E ∷ 0x04 ∷ 0x07 ∷ 0x0F ∷ 0x25 ∷ []) (says 1 [] ∷ [])
+    ∷ rtu (0x00 ∷ 0x2B ∷ 0x0E ∷ 0x03 ∷ 0x00 ∷ 0x4C ∷ 0xD7 ∷ []) (says 1 [] ∷ [])
+    ∷ rtu (0x00 ∷ 0x2B ∷ 0x0D ∷ 0x01 ∷ 0x00 ∷ 0xBD ∷ 0xB7 ∷ []) (says 9 [] ∷ [])
+    ∷ rtu (0x00 ∷ 0x2B ∷ 0x41 ∷ 0xAF ∷ []) (says 1 [] ∷ [])
+    ∷ rtu (0x00 ∷ 0x11 ∷ 0xC1 ∷ 0xBC ∷ []) (says 1 [] ∷ [])
+    ∷ rtu (0x00 ∷ 0x11 ∷ 0x00 ∷ 0x7D ∷ 0x90 ∷ []) (says 1 [] ∷ [])
+    -- over ASCII: code 01 from object 02h on; code 04, object 05h; an object that there is not; type 13; 17
+    ∷ ascii (spelt (0x01 ∷ 0x2B ∷ 0x0E ∷ 0x01 ∷ 0x02 ∷ 0xC3 ∷ []))
+    (says 0 (spelt (0x01 ∷ 0x2B ∷ 0x0E ∷ 0x01 ∷ 0x82 ∷ 0x00 ∷ 0x00 ∷ 0x01 ∷ 0x02 ∷ 0x11 ∷ 0x31 ∷ 0x2E ∷ 0x30 ∷ 0x2E ∷ 0x33 ∷ 0x20 ∷ 0x6F ∷ 0x66 ∷ 0x20 ∷ 0x4E ∷ 0x6F ∷ 0x76 ∷ 0x65 ∷ 0x6D ∷ 0x62 ∷ 0x65 ∷ 0x72 ∷ 0xEC ∷ [])) ∷ [])
+    ∷ ascii (spelt (0x01 ∷ 0x2B ∷ 0x0E ∷ 0x04 ∷ 0x05 ∷ 0xBD ∷ []))
+    (says 0 (spelt (0x01 ∷ 0x2B ∷ 0x0E ∷ 0x04 ∷ 0x82 ∷ 0x00 ∷ 0x00 ∷ 0x01 ∷ 0x05 ∷ 0x08 ∷ 0x56 ∷ 0x57 ∷ 0x2D ∷ 0x39 ∷ 0x35 ∷ 0x2F ∷ 0x30 ∷ 0x37 ∷ 0x54 ∷ [])) ∷ [])
+    ∷ ascii (spelt (0x01 ∷ 0x2B ∷ 0x0E ∷ 0x04 ∷ 0x07 ∷ 0xBB ∷ []))
+    (says 2 (spelt (0x01 ∷ 0xAB ∷ 0x02 ∷ 0x52 ∷ [])) ∷ [])
+    ∷ ascii (spelt (0x01 ∷ 0x2B ∷ 0x0D ∷ 0x01 ∷ 0x00 ∷ 0xC6 ∷ []))
+    (says 9 (spelt (0x01 ∷ 0xAB ∷ 0x01 ∷ 0x53 ∷ [])) ∷ [])
+    ∷ ascii (spelt (0x01 ∷ 0x11 ∷ 0xEE ∷ []))
+    (says 0 (spelt (0x01 ∷ 0x11 ∷ 0x10 ∷ 0x30 ∷ 0x30 ∷ 0x34 ∷ 0x32 ∷ 0x00 ∷ 0x41 ∷ 0x42 ∷ 0x43 ∷ 0x44 ∷ 0x45 ∷ 0x46 ∷ 0x47 ∷ 0x48 ∷ 0x49 ∷ 0x4A ∷ 0x4B ∷ 0x16 ∷ [])) ∷ [])
     ∷ []
 
 -- each comes to what it should

@@ -9,7 +9,6 @@ use Prim.Native.Nat.{ℕ, _≤_, _+_, _<_}
 use lib.Dec.{ltb}
 use lib.ListN.{length}
 use Rattle.base.specs.Choice.{either}
-use Rattle.base.specs.Buffers.{replyLeast}
 use Rattle.base.specs.Order.{when}
 use Rattle.base.specs.Bytes.{Bytes}
 use Rattle.stream.specs.Reading.{Taken, Yield, Reads}
@@ -44,7 +43,7 @@ use Rattle.master_nfo.specs.declared.replies.Reply.the-variants as Serials
 use Rattle.turn.specs.Turn.{Received}
 use Rattle.receive.specs.Receive.{received}
 use Rattle.demands.specs.Orders.{Gives, callOrder}
-use Rattle.demands.specs.Calls.{Wire, nfoSerial, modbusAscii, Speaks, message, besides, TakesFirst}
+use Rattle.demands.specs.Calls.{LongEnough, Wire, nfoSerial, modbusAscii, Speaks, message, besides, TakesFirst}
 use Rattle.demands.specs.Kept.{Sound}
 
 -- ---- what each number leaves
@@ -57,7 +56,7 @@ Cleared r = held (r .card .port .pending) ≡ []
 
 -- of a call of the card c on so many bytes. Where there is no reply, no byte of the buffer changes: after a call it is `front reply buffer`
 pub record Leaves (c : Card) (count : ℕ) (r : Received) : Type 0 where
-  -- "A reply buffer under 19 bytes is 10, with no byte used"; "1 and 10 to 14 [change] none"
+  -- "10: buffer too short", "with no byte used"; "1 and 10 to 14 [change] none"
   pub short : numberIn r ≡ 10 → (r .card ≡ c) × (r .used ≡ 0) × (r .reply ≡ [])
   -- "An RTU call uses all, save at 10"
   pub spoilt : numberIn r ≡ 11 → (r .card ≡ c) × (r .used ≡ count) × (r .reply ≡ [])
@@ -74,7 +73,7 @@ pub record Leaves (c : Card) (count : ℕ) (r : Received) : Type 0 where
 -- "15: nothing taken", exactly where the left-to-right reading of what is pending and the bytes behind it takes none
 abbrev pub Only15Then : Wire → Type 0
 Only15Then W =
-    (c : Card) → Sound c → Speaks W c → (bytes : List ℕ) (room : ℕ) → replyLeast ≤ room → (y : Yield) → Reads (W .format) 0 (held (c .port .pending) ++ bytes) y
+    (c : Card) → Sound c → Speaks W c → (bytes : List ℕ) (room : ℕ) → LongEnough c room → (y : Yield) → Reads (W .format) 0 (held (c .port .pending) ++ bytes) y
     → (numberIn (received c bytes room) ≡ 15) ↔ (y .taken ≡ [])
 
 -- a call that takes the message t: what it hands back is that message's, "what is pending after a taken message is empty", and "fixed by the place where the message
@@ -88,7 +87,7 @@ pub record TakesIt (W : Wire) (c : Card) (t : Taken) (r : Received) : Type 0 whe
 
 abbrev pub TakesTheFirst : Wire → Type 0
 TakesTheFirst W =
-    (c : Card) → Sound c → Speaks W c → (bytes : List ℕ) (room : ℕ) → replyLeast ≤ room → (t : Taken) → TakesFirst W c bytes t → TakesIt W c t (received c bytes room)
+    (c : Card) → Sound c → Speaks W c → (bytes : List ℕ) (room : ℕ) → LongEnough c room → (t : Taken) → TakesFirst W c bytes t → TakesIt W c t (received c bytes room)
 
 pub record Receiving : Type 0 where
   -- "No bytes, lengths, numbers or lent buffers can break it": the bytes used are there, and a reply fits
@@ -100,7 +99,7 @@ pub record Receiving : Type 0 where
   -- "A stream call uses bytes up to the end of the first message taken"; "An RTU call uses all, save at 10"
   pub nfo-takes : TakesTheFirst nfoSerial
   pub ascii-takes : TakesTheFirst modbusAscii
-  pub rtu-used : (c : Card) → protocolOf c ≡ 1 → (frame : List ℕ) (room : ℕ) → replyLeast ≤ room → received c frame room .used ≡ length frame
+  pub rtu-used : (c : Card) → protocolOf c ≡ 1 → (frame : List ℕ) (room : ℕ) → LongEnough c room → received c frame room .used ≡ length frame
   -- "and leaves settings, drive state and reply buffer as 01 says"
   pub leaves : (c : Card) (bytes : List ℕ) (room : ℕ) → Leaves c (length bytes) (received c bytes room)
 

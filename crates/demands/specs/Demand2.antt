@@ -4,12 +4,11 @@ use mathlib.Core.Path.{_≡_}
 use mathlib.Core.Logic.{_⊎_, _↔_}
 use mathlib.Core.Bool.{Bool, true}
 use mathlib.Core.List.{List, [], _∷_, _++_}
-use Prim.Native.Nat.{ℕ, _+_, _-_, _*_, _/_, _%_, _≤_, _<_}
+use Prim.Native.Nat.{ℕ, _+_, _-_, _*_, _/_, _%_, _<_}
 use lib.Bits.{bitOr}
 use lib.Dec.{eqb}
 use lib.ListN.{length, take, drop, getD}
 use Rattle.base.specs.Choice.{pick}
-use Rattle.base.specs.Buffers.{replyLeast}
 use Rattle.stream.specs.Format.{Format}
 use Rattle.stream.specs.Reading.{Taken, Yield, Reads}
 use Rattle.table.specs.Table.{lineAt}
@@ -46,7 +45,7 @@ use Rattle.master_reply.specs.declared.Heard.{Heard}
 use Rattle.master_reply.specs.declared.Reply.the-variants.{Data, One, Many, Exception, NotAReply}
 use Rattle.master_rtu.specs.Heard.{rtuHeard}
 use Rattle.master_ascii.specs.Heard.{asciiHeard}
-use Rattle.demands.specs.Calls.{Wire, nfoSerial, modbusAscii, Course, Calls, Speaks, NothingPending, besides, message, TakesFirst}
+use Rattle.demands.specs.Calls.{LongEnough, Wire, nfoSerial, modbusAscii, Course, Calls, Speaks, NothingPending, besides, message, TakesFirst}
 use Rattle.demands.specs.Kept.{Sound}
 
 -- ---- "What the master side writes is read by the card"
@@ -67,7 +66,7 @@ ReadAs W m = TakenAfter (W .format) m × ServedAlone W m
 
 -- a frame is served by the call that is given it
 abbrev pub FrameRead : List ℕ → Type 0
-FrameRead frame = (c : Card) → protocolOf c ≡ 1 → (room : ℕ) → replyLeast ≤ room → received c frame room ≡ Rtu.taken c frame
+FrameRead frame = (c : Card) → protocolOf c ≡ 1 → (room : ℕ) → LongEnough c room → received c frame room ≡ Rtu.taken c frame
 
 -- the bytes that the master writes for what it asks
 abbrev pub frame : ℕ → Ask → List ℕ → List ℕ
@@ -126,6 +125,8 @@ abbrev pub functionIn : Request → ℕ
 functionIn (Requested.Read function first count) = function
 functionIn (Requested.One register word) = 6
 functionIn (Requested.Many first count place) = 16
+functionIn (Requested.Identify code object) = 43
+functionIn Requested.Serial = 17
 functionIn (Requested.Malformed function) = function
 functionIn (Requested.Unknown function) = function
 
@@ -139,23 +140,29 @@ pub record Ears (H : Type 0) : Type 0 where
 abbrev pub serialBack : List ℕ → Answer → Serial.Reply
 serialBack m (Answers.Told row word) = Serials.Told (adrIn (messageOf m) - 32) (record { 0 = eNumberIn (parameterIn (messageOf m)) }) (word % 0x10000)
 serialBack m (Answers.Written change) = Serials.Acknowledged (adrIn (messageOf m) - 32)
+serialBack m (Answers.Identified part) = Serials.NotAReply
 serialBack m Answers.NotOurs = Serials.NotAReply
 serialBack m (Answers.Refused refusal) = Serials.Refused (adrIn (messageOf m) - 32)
 
 abbrev pub serial : Ears Serial.Reply
 serial = record { toAll = λ m. eqb (adrIn (messageOf m)) (95 + 32); hear = readOf; back = serialBack }
 
--- Modbus: a row told by its words, a write by its register, and its word or count, a refusal by its exception, each from the address that was asked
+-- Modbus: a row told by its words, a write by its register, and its word or count, a refusal by its exception, each from the address that was asked. "The master side
+-- doesn't speak these two, and their normal replies are left out of demand 2's reading back": to those of 43 and 17 its reader says 14, and what they hold is in
+-- Identity.antt. Their exceptions are heard as any other
 abbrev pub wroteBack : ℕ → Request → Heard
 wroteBack address (Requested.Read function first count) = heard NotAReply []
 wroteBack address (Requested.One register word) = heard (One address register word) []
 wroteBack address (Requested.Many first count place) = heard (Many address first count) []
+wroteBack address (Requested.Identify code object) = heard NotAReply []
+wroteBack address Requested.Serial = heard NotAReply []
 wroteBack address (Requested.Malformed function) = heard NotAReply []
 wroteBack address (Requested.Unknown function) = heard NotAReply []
 
 abbrev pub modbusBack : ℕ → Request → Answer → Heard
 modbusBack address request (Answers.Told row word) = heard (Data address (functionIn request) (length (rowWords row word))) (rowWords row word)
 modbusBack address request (Answers.Written change) = wroteBack address request
+modbusBack address request (Answers.Identified part) = heard NotAReply []
 modbusBack address request Answers.NotOurs = heard NotAReply []
 modbusBack address request (Answers.Refused refusal) = heard (Exception address (bitOr (functionIn request) 0x80) (exceptionAt (refusalNumber refusal))) []
 
@@ -182,12 +189,12 @@ pub record AnswerHeard {H : Type 0} (E : Ears H) (m : List ℕ) (a : Answer) (re
 -- a call that takes the message t answers it
 abbrev pub AnswersFirst : {H : Type 0} → Wire → Ears H → Type 0
 AnswersFirst W E =
-    (c : Card) → Sound c → Speaks W c → (bytes : List ℕ) (room : ℕ) → replyLeast ≤ room → (t : Taken) → TakesFirst W c bytes t → (a : Answer)
+    (c : Card) → Sound c → Speaks W c → (bytes : List ℕ) (room : ℕ) → LongEnough c room → (t : Taken) → TakesFirst W c bytes t → (a : Answer)
     → received c bytes room .outcome ≡ Outcomes.Served a → AnswerHeard E (t .bytes) a (received c bytes room .reply)
 
 pub record Replies : Type 0 where
   pub nfo : AnswersFirst nfoSerial serial
-  pub rtu : (c : Card) → Sound c → protocolOf c ≡ 1 → (frame : List ℕ) (room : ℕ) → replyLeast ≤ room → (a : Answer)
+  pub rtu : (c : Card) → Sound c → protocolOf c ≡ 1 → (frame : List ℕ) (room : ℕ) → LongEnough c room → (a : Answer)
       → received c frame room .outcome ≡ Outcomes.Served a → AnswerHeard rtu frame a (received c frame room .reply)
   pub ascii : AnswersFirst modbusAscii ascii
   -- nothing was taken: 10, 11, 15

@@ -6,7 +6,6 @@ use mathlib.Core.Bool.{true}
 use mathlib.Core.List.{List, [], _∷_, _++_}
 use Prim.Native.Nat.{ℕ, _+_, _≤_}
 use lib.ListN.{length, drop}
-use Rattle.base.specs.Buffers.{replyLeast}
 use Rattle.stream.specs.Reading.{Yield, Reads}
 use Rattle.stream.specs.Automaton.{glue}
 use Rattle.stream.specs.Once.{Once}
@@ -16,7 +15,7 @@ use Rattle.pending.specs.Held.{held}
 use Rattle.ascii.specs.Ascii.{ascii}
 use Rattle.card.specs.declared.state.Card.{Card}
 use Rattle.receive.specs.Receive.{received}
-use Rattle.demands.specs.Calls.{Wire, nfoSerial, modbusAscii, Course, Calls, Speaks, NothingPending, besides, adding, ended, servedAll}
+use Rattle.demands.specs.Calls.{LongEnough, Wire, nfoSerial, modbusAscii, Course, Calls, Speaks, NothingPending, besides, adding, ended, servedAll}
 
 -- what came of the stream is what comes of serving the messages of the reading y one after another; and what is pending is what y leaves pending
 pub record Same (W : Wire) (c : Card) (k : Course) (y : Yield) : Type 0 where
@@ -29,7 +28,7 @@ pub record Same (W : Wire) (c : Card) (k : Course) (y : Yield) : Type 0 where
 pub data Given : Card → List (List ℕ) → Course → Type 0 where
   over : {c : Card} → Given c [] (ended c)
   spent : {c : Card} {scraps : List (List ℕ)} {k : Course} → Given c scraps k → Given c ([] ∷ scraps) k
-  call : {c : Card} (b : ℕ) (x : List ℕ) (room : ℕ) {scraps : List (List ℕ)} {k : Course} → replyLeast ≤ room
+  call : {c : Card} (b : ℕ) (x : List ℕ) (room : ℕ) {scraps : List (List ℕ)} {k : Course} → LongEnough c room
       → Given (received c (b ∷ x) room .card) (drop (received c (b ∷ x) room .used) (b ∷ x) ∷ scraps) k
       → Given c ((b ∷ x) ∷ scraps) (adding (received c (b ∷ x) room) k)
 
@@ -47,8 +46,8 @@ pub record Demand3 : Type 0 where
   -- "save an NFO message ..": of Modbus ASCII each well-formed message is taken exactly once, without exception
   pub ascii-once : (i : ℕ) (s : List ℕ) (y : Yield) → Reads ascii i s y → (u m v : List ℕ) → s ≡ u ++ (m ++ v) → ascii .formed m ≡ true → Once (i + length u) m (y .taken)
   -- progress: where there is a byte and the buffer is long enough, a call uses one at least
-  pub progress : (c : Card) (b : ℕ) (x : List ℕ) (room : ℕ) → replyLeast ≤ room → 1 ≤ received c (b ∷ x) room .used
+  pub progress : (c : Card) (b : ℕ) (x : List ℕ) (room : ℕ) → LongEnough c room → 1 ≤ received c (b ∷ x) room .used
   -- so for every card and every list of scraps there are calls that go through it to the end,
-  pub to-the-end : (c : Card) (scraps : List (List ℕ)) (room : ℕ) → replyLeast ≤ room → (k : Course) × Given c scraps k
+  pub to-the-end : (c : Card) (scraps : List (List ℕ)) (room : ℕ) → LongEnough c room → (k : Course) × Given c scraps k
   -- and they are calls of the stream that was cut into these scraps
   pub are-calls : (c : Card) (scraps : List (List ℕ)) (k : Course) → Given c scraps k → Calls c (glue scraps) k

@@ -5,6 +5,7 @@ use Rattle.demands.specs.Host.{Host}
 use Rattle.demands.specs.Silence.{SilenceStops}
 use Rattle.demands.specs.Effects.{Effects}
 use Rattle.demands.specs.Demand2.{Demand2}
+use Rattle.demands.specs.Identity.{WhoAreYou}
 use Rattle.demands.specs.Letters.{Letters}
 use Rattle.demands.specs.Demand3.{Demand3}
 use Rattle.demands.specs.Cases.{Cases}
@@ -16,6 +17,7 @@ pub record Demands : Type 0 where
   pub silence : SilenceStops
   pub effects : Effects
   pub demand-2 : Demand2
+  pub identity : WhoAreYou
   pub letters : Letters
   pub demand-3 : Demand3
   pub cases : Cases

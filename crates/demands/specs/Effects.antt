@@ -4,16 +4,17 @@ use mathlib.Core.Path.{_≡_}
 use mathlib.Core.Logic.{_≢_}
 use mathlib.Core.Bool.{true, false}
 use mathlib.Core.List.{List, []}
-use Prim.Native.Nat.{ℕ, _/_, _≤_, _<_}
+use Prim.Native.Nat.{ℕ, _/_, _<_}
 use lib.Dec.{eqb}
 use lib.ListN.{length, getD}
 use Rattle.base.specs.Choice.{pick, both, either}
-use Rattle.base.specs.Buffers.{replyLeast}
 use Rattle.table.specs.Names.{SiAdr, Mode, Setpoint, MODE, SCMD, Inv-St-ack, Inv-St, SioErr, rowCount}
 use Rattle.table.specs.Table.{Word, lineAt}
 use Rattle.table.specs.Find.{rowOfE, rowOfSpan}
 use Rattle.table.specs.declared.labels.Found.{Found}
 use Rattle.table.specs.declared.labels.Found.the-variants.{At}
+use Rattle.identity.specs.Identity.{Identity}
+use Rattle.identity.specs.declared.Part.{Part}
 use Rattle.port.specs.Port.{protocol, sum, sioerr, withSioerr}
 use Rattle.drive.specs.Plant.{Plant, mode, scmd, din1, causes, flags, station, withFlags}
 use Rattle.drive.specs.Flags.{flagged, only}
@@ -34,8 +35,8 @@ use Rattle.master_request.specs.declared.Ask.{Ask}
 use Rattle.master_request.specs.declared.Ask.the-variants.{Holding, Input, One, Many}
 use Rattle.master_request.specs.Ask.{sayable, requestUnit}
 use Rattle.master_request.specs.Said.{InWidth}
-use Rattle.demands.specs.Calls.{besides}
-use Rattle.demands.specs.Kept.{TakenOut, Sound}
+use Rattle.demands.specs.Calls.{LongEnough, besides}
+use Rattle.demands.specs.Kept.{TakenOut, SoundIdentity, Sound}
 
 -- the row that a label leads to
 abbrev pub row : ℕ → Found
@@ -59,7 +60,7 @@ pub data Asks (c : Card) (n : ℕ) : List ℕ → Type 0 where
 
 -- `Tells c n w`: whoever asks the card for row n, once nothing is pending, is told the word w
 abbrev pub Tells : Card → ℕ → ℕ → Type 0
-Tells c n w = (m : List ℕ) → Asks c n m → (room : ℕ) → replyLeast ≤ room → received (besides c) m room .outcome ≡ Served (Answers.Told (record { 0 = n }) w)
+Tells c n w = (m : List ℕ) → Asks c n m → (room : ℕ) → LongEnough c room → received (besides c) m room .outcome ≡ Served (Answers.Told (record { 0 = n }) w)
 
 -- row n tells one word on both cards
 abbrev pub Unchanged : Card → Card → ℕ → Type 0
@@ -86,12 +87,14 @@ pub data Sets (c : Card) (n w : ℕ) : List ℕ → Type 0 where
       → Sets c n w (asciiOf address (requestUnit ask registers))
 
 -- ---- "exactly the effect"
--- the numbers that no row tells, and the host's
+-- what no row tells, and what is the host's
 pub record Stays (c d : Card) : Type 0 where
   pub protocol : protocolOf d ≡ protocolOf c
   pub station : station (d .plant) ≡ station (c .plant)
   pub din1 : din1 (d .plant) ≡ din1 (c .plant)
   pub causes : causes (d .plant) ≡ causes (c .plant)
+  -- "No message changes the identity"
+  pub identity : d .identity ≡ c .identity
 
 -- a write of a different number
 abbrev pub Differs : Card → Change → ℕ → Type 0
@@ -134,7 +137,7 @@ abbrev pub flaggedWith : ℕ → Card → Card
 flaggedWith x c = cardSum 0 (withPlant (withFlags x (c .plant)) c)
 
 abbrev pub sioErrZeroed : Card → Card
-sioErrZeroed c = record { port = record { pending = c .port .pending; numbers = withSioerr 0 (c .port .numbers) }; plant = c .plant }
+sioErrZeroed c = record { port = record { pending = c .port .pending; numbers = withSioerr 0 (c .port .numbers) }; plant = c .plant; identity = c .identity }
 
 -- what a done read of row n leaves: nothing changes but the time sum and what is pending, save these
 pub record ReadLeaves (c : Card) (n : ℕ) (d : Card) : Type 0 where
@@ -159,7 +162,7 @@ pub data InvSt (p : Plant) : ℕ → Type 0 where
 -- ---- the statement
 pub record Effects : Type 0 where
   -- a message that writes a row, where it is done, wrote that row and that word
-  pub names : (c : Card) → Sound c → (n w : ℕ) (m : List ℕ) → Sets c n w m → (room : ℕ) → replyLeast ≤ room → outcomeNumber (received (besides c) m room .outcome) ≡ 0
+  pub names : (c : Card) → Sound c → (n w : ℕ) (m : List ℕ) → Sets c n w m → (room : ℕ) → LongEnough c room → outcomeNumber (received (besides c) m room .outcome) ≡ 0
       → received (besides c) m room .outcome ≡ Served (Answers.Written (record { row = record { 0 = n }; word = w }))
   -- what a call that wrote leaves, whatever its bytes are. Where a flag stands, writes are refused (5), so what is done then is the broadcast stop
   pub write : (c : Card) → Sound c → (bytes : List ℕ) (room : ℕ) (change : Change) → received c bytes room .outcome ≡ Served (Answers.Written change)
@@ -169,10 +172,13 @@ pub record Effects : Type 0 where
   -- what a call that told a row leaves, whatever its bytes are
   pub read : (c : Card) → Sound c → (bytes : List ℕ) (room n w : ℕ) → received c bytes room .outcome ≡ Served (Answers.Told (record { 0 = n }) w)
       → ReadLeaves c n (received c bytes room .card)
+  -- a call that told a part of the identity changes nothing but the time sum and what is pending
+  pub identified : (c : Card) (bytes : List ℕ) (room : ℕ) (part : Part) → received c bytes room .outcome ≡ Served (Answers.Identified part)
+      → besides (received c bytes room .card) ≡ besides (cardSum 0 c)
   -- whoever asks for a row is told it, one word whatever the message is: Inv St by its rule, SioErr, and any other by the word that stands at its line
   pub row-told : (c : Card) → Sound c → (n : ℕ) → n < rowCount → n ≢ Inv-St-ack → n ≢ Inv-St → n ≢ SioErr → Tells c n (getD (c .plant) n 0)
   pub status : (c : Card) → Sound c → (n : ℕ) × InvSt (c .plant) n × Tells c Inv-St n × Tells c Inv-St-ack n
   pub sio-err : (c : Card) → Sound c → Tells c SioErr (sioerr (c .port .numbers))
   -- the column Start of every row that has one; the two Inv St rows tell 24, "24 at MODE 1"
-  pub start : (protocol : Protocols.Protocol) (n w : ℕ) → lineAt n .start ≡ Word w → Tells (started protocol) n w
-  pub start-status : (protocol : Protocols.Protocol) → Tells (started protocol) Inv-St-ack 24 × Tells (started protocol) Inv-St 24
+  pub start : (protocol : Protocols.Protocol) (i : Identity) → SoundIdentity i → (n w : ℕ) → lineAt n .start ≡ Word w → Tells (started protocol i) n w
+  pub start-status : (protocol : Protocols.Protocol) (i : Identity) → SoundIdentity i → Tells (started protocol i) Inv-St-ack 24 × Tells (started protocol i) Inv-St 24

@@ -7,6 +7,7 @@ use mathlib.Core.List.{[]}
 use Prim.Native.Nat.{ℕ, _+_, _≤_, _<_}
 use lib.ListN.{getD, set}
 use Rattle.table.specs.Names.{SioTot, MbAdr, MODE, SCMD, FrqAct, I-rms, OpTime}
+use Rattle.identity.specs.Identity.{Identity}
 use Rattle.port.specs.Port.{sum, sioerr, withSioerr}
 use Rattle.drive.specs.Plant.{Plant, Flags, Station, mode, scmd, din1, causes, flags, station, withScmd, withDin1, withCauses, withFlags}
 use Rattle.drive.specs.Events.{isFault}
@@ -54,7 +55,7 @@ pub record AfterRestart (c d : Card) : Type 0 where
   pub sioerr : sioerr (d .port .numbers) ≡ 0
 
 pub record Host : Type 0 where
-  pub start : (protocol : Protocols.Protocol) → AtStart protocol (started protocol)
+  pub start : (protocol : Protocols.Protocol) (i : Identity) → AtStart protocol (started protocol i)
   pub restart : (c : Card) → Sound c → AfterRestart c (restarted c)
   -- "Faults 1 to 13 and 16 to 23 .. The host raises one (both set)"
   pub raise : (n : ℕ) (c : Card) → isFault n ≡ true

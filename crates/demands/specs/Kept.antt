@@ -8,7 +8,9 @@ use Prim.Native.Nat.{ℕ, _^_, _≤_, _<_}
 use lib.Dec.{eqb}
 use lib.ListN.{length, getD}
 use Rattle.base.specs.Choice.{both, either}
+use Rattle.base.specs.Bytes.{Bytes}
 use Rattle.table.specs.Names.{MbAdr, SioTot}
+use Rattle.identity.specs.Identity.{Identity}
 use Rattle.port.specs.Port.{Numbers, sum}
 use Rattle.drive.specs.Plant.{Plant}
 use Rattle.drive.specs.Plant as Plants
@@ -78,6 +80,10 @@ pub record SoundPending (c : Card) : Type 0 where
 abbrev pub SumRight : Plant → Numbers → Type 0
 SumRight p q = getD p SioTot 0 ≡ 0 → sum q ≡ 0
 
+-- ---- the identity: its bytes, and how many they are, which its type tells
+abbrev pub SoundIdentity : Identity → Type 0
+SoundIdentity i = (length i ≡ 41) × Bytes i
+
 -- ---- the card
 pub record Sound (c : Card) : Type 0 where
   pub plant : SoundPlant (c .plant)
@@ -86,9 +92,22 @@ pub record Sound (c : Card) : Type 0 where
   pub numbers : length (c .port .numbers) ≡ 3
   pub protocol : protocolOf c ≤ 2
   pub sum : SumRight (c .plant) (c .port .numbers)
+  pub identity : SoundIdentity (c .identity)
+
+-- "given at start", "No message changes the identity", and nothing else does
+pub record IdentityKept : Type 0 where
+  pub start : (protocol : Protocols.Protocol) (i : Identity) → started protocol i .identity ≡ i
+  pub restart : (c : Card) → restarted c .identity ≡ c .identity
+  pub raise : (n : ℕ) (c : Card) → faultRaised n c .card .identity ≡ c .identity
+  pub end : (n : ℕ) (c : Card) → causeEnded n c .card .identity ≡ c .identity
+  pub din1 : (active : Bool) (c : Card) → din1Set active c .card .identity ≡ c .identity
+  pub measure : (measured : Measured) (c : Card) → measuredSet measured c .card .identity ≡ c .identity
+  pub parity : (c : Card) → parityTold c .card .identity ≡ c .identity
+  pub tick : (n : ℕ) (c : Card) → ticked n c .card .identity ≡ c .identity
+  pub receive : (c : Card) (bytes : List ℕ) (room : ℕ) → received c bytes room .card .identity ≡ c .identity
 
 pub record Kept : Type 0 where
-  pub start : (protocol : Protocols.Protocol) → Sound (started protocol)
+  pub start : (protocol : Protocols.Protocol) (i : Identity) → SoundIdentity i → Sound (started protocol i)
   pub restart : (c : Card) → Sound c → Sound (restarted c)
   pub raise : (n : ℕ) (c : Card) → Sound c → Sound (faultRaised n c .card)
   pub end : (n : ℕ) (c : Card) → Sound c → Sound (causeEnded n c .card)
@@ -97,3 +116,4 @@ pub record Kept : Type 0 where
   pub parity : (c : Card) → Sound c → Sound (parityTold c .card)
   pub tick : (n : ℕ) (c : Card) → Sound c → Sound (ticked n c .card)
   pub receive : (c : Card) (bytes : List ℕ) (room : ℕ) → Sound c → Sound (received c bytes room .card)
+  pub identity : IdentityKept

@@ -7,6 +7,7 @@
 --   Silence   a card at MODE 3 stops by itself when its master is dead
 --   Effects   what a message does, by what a following read tells
 --   Demand2   what the master wrote arrives, and what was answered is heard
+--   Identity  what a master is told that asks who the card is
 --   Letters   small letters are taken, capitals are written
 --   Demand3   streams, cut anywhere
 --   Cases     document 01's worked cases
@@ -19,6 +20,7 @@ pub mod Host
 pub mod Silence
 pub mod Effects
 pub mod Demand2
+pub mod Identity
 pub mod Letters
 pub mod Demand3
 pub mod Cases

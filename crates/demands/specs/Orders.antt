@@ -32,7 +32,7 @@ use Rattle.card.specs.declared.outcome.Outcome.the-variants.{Served, ShortBuffe
 use Rattle.modbus_words.specs.Words.{longAt}
 use Rattle.modbus.specs.Request.{requestOf}
 use Rattle.modbus.specs.declared.requests.Request.{Request}
-use Rattle.modbus.specs.declared.requests.Request.the-variants.{Read, One, Many, Malformed, Unknown}
+use Rattle.modbus.specs.declared.requests.Request.the-variants.{Read, One, Many, Identify, Serial, Malformed, Unknown}
 use Rattle.rtu.specs.Rtu.{frameHolds, addressIn, unitIn}
 use Rattle.ascii.specs.Ascii.{bytesIn, unitAmong, addressAmong}
 use Rattle.modbus_service.specs.Serve as Modbus
@@ -66,6 +66,8 @@ abbrev pub changeLines : Plant → Row → Request → List ℕ → List (Line A
 changeLines p row (Read function first count) unit = []
 changeLines p row (One register word) unit = saying Refused (readLine (row .0) ∷ writeLines p (row .0) word)
 changeLines p row (Many first count place) unit = saying Refused (readLine (row .0) ∷ writeLines p (row .0) (longAt unit (place .from)))
+changeLines p row (Identify code object) unit = []
+changeLines p row Serial unit = []
 changeLines p row (Malformed function) unit = []
 changeLines p row (Unknown function) unit = []
 
@@ -75,6 +77,11 @@ requestOrder p station address request unit = Modbus.unitLines station address r
 pub one-order : (p : Plant) (station address : ℕ) (register : Register) (word : ℕ) (unit : List ℕ)
     → numbers answerNumber (requestOrder p station address (One register word) unit) ≡ 1 ∷ 9 ∷ 1 ∷ 8 ∷ 2 ∷ 3 ∷ 4 ∷ 5 ∷ 6 ∷ 7 ∷ []
 one-order p station address register word unit = refl
+
+-- of 43 and 17 there are no others: "8 (43: wrong length or no type byte, code ..; 17: wrong length); 2 (code 04 and an object above 06h)"
+pub identify-order : (p : Plant) (station address code object : ℕ) (unit : List ℕ)
+    → numbers answerNumber (requestOrder p station address (Identify code object) unit) ≡ 1 ∷ 9 ∷ 1 ∷ 8 ∷ 2 ∷ []
+identify-order p station address code object unit = refl
 
 abbrev pub modbusOrder : Plant → (station address : ℕ) → List ℕ → List (Line Answer)
 modbusOrder p station address unit = requestOrder p station address (requestOf unit) unit
@@ -100,9 +107,9 @@ asciiOrder c scan =
 abbrev pub rtuOrder : Card → List ℕ → List (Line Outcome)
 rtuOrder c frame = when (not (frameHolds frame)) BadFrame ∷ saying Served (modbusOrder (c .plant) (station (c .plant)) (addressIn frame) (unitIn frame))
 
--- "Order: 10 first, in every reply call"; "A reply buffer under 19 bytes is 10"
+-- "Order: 10 first, in every reply call"; "Reply buffers now need 256 bytes for RTU and 513 for ASCII; NFO stays at 19"
 abbrev pub callOrder : Card → List ℕ → ℕ → List (Line Outcome)
 callOrder c bytes room =
-    when (ltb room replyLeast) ShortBuffer
+    when (ltb room (replyLeast (protocolOf c))) ShortBuffer
     ∷ pick (eqb (protocolOf c) 1) (rtuOrder c bytes)
     (pick (eqb (protocolOf c) 2) (asciiOrder c (scanOf (asciiStream .feeding) c bytes)) (serialOrder c (scanOf (nfoStream .feeding) c bytes)))

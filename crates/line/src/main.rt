@@ -7,9 +7,13 @@
 use card::Card;
 use card::Protocol;
 use clock::Time;
+use identity::Identity;
 use libc::STDERR_FILENO;
 use protocols::Named;
 use session_loop::Replies;
+
+// Who this card is, for a master that asks: the revision `Revision 02.03 PC`, the model `LineOnPC`, the serial number `0000000000000001`.
+const IDENTITY: Identity = *b"Revision 02.03 PCLineOnPC0000000000000001";
 
 // Tells how the program is called.
 fn usage() {
@@ -32,13 +36,14 @@ fn present() -> Time {
 
 // A card by the protocol on the open device, from this time on, to the device's end.
 fn run(protocol: Protocol, device: i32, start: u64) {
-    let card = Card::start(protocol);
+    let card = Card::start(protocol, IDENTITY);
     let line = card.port;
     let pending = line.pending;
     let mut held = pending.bytes;
     let mut len = pending.len;
     let mut port = line.numbers;
     let mut plant = card.plant;
+    let identity = card.identity;
     let mut scrap = io::buffer();
     let mut last = start;
     let mut turns = u64::MAX;
@@ -60,6 +65,7 @@ fn run(protocol: Protocol, device: i32, start: u64) {
             len,
             &mut port,
             &mut plant,
+            &identity,
             &scrap[..n],
             Replies::Sent(device),
         );

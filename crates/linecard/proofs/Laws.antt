@@ -7,6 +7,7 @@ use native.Mathlib.Omega.{arith}
 use lib.ListN.{length, take, drop, length-drop}
 use lib.Seq.{length-take-le}
 use Rattle.base.specs.Buffers.{front}
+use Rattle.identity.specs.Identity.{Identity}
 use Rattle.port.specs.Port.{Parity, fresh}
 use Rattle.port.specs.Port as Ports
 use Rattle.drive.specs.Plant.{Plant}
@@ -31,53 +32,53 @@ use Rattle.linecard.specs.Host.{protocolOf, activeOf, OnPlant, OnPort, R
 use Rattle.linecard.specs.Told.{Leaves, toldIn, placeOf}
 
 -- ---- start and restart: each part is the definition's
-pub started-in : (n : ℕ) (k : Protocol) (q p : Plant) → k ≡ protocolOf n → q ≡ fresh (protocolNumber k) → p ≡ Plants.started
-    → cardOf (empty .bytes) 0 q p ≡ started (protocolOf n)
+pub started-in : (n : ℕ) (k : Protocol) (q p : Plant) (i : Identity) → k ≡ protocolOf n → q ≡ fresh (protocolNumber k) → p ≡ Plants.started
+    → cardOf (empty .bytes) 0 q p i ≡ started (protocolOf n) i
 unfolding started empty
-started-in n k q p a b d = simp (d, b, a)
+started-in n k q p i a b d = simp (d, b, a)
 
 pub restarted-in : (len : ℕ) (q p y x : Plant) → y ≡ fresh (Ports.protocol q) → x ≡ Plants.restarted p → Restarts len q p 0 y x
 unfolding restarted emptied
-restarted-in len q p y x a b held = simp (a, b)
+restarted-in len q p y x a b held i = simp (a, b)
 
 -- ---- an event on the plant, and its number
 event-in : (p x : Plant) (e : Event) (known : Bool) (o : Outcome) (r : ℕ) → record { plant = x; known = known } ≡ e → o ≡ eventOutcome known → r ≡ outcomeNumber o → OnPlant (eventOn e) p x r
 unfolding eventOn
-event-in p x e known o r a b d port = simp (← a) (refl, d ∙ ap outcomeNumber b)
+event-in p x e known o r a b d port i = simp (← a) (refl, d ∙ ap outcomeNumber b)
 
 module _ (p x : Plant) (n : ℕ) (known : Bool) (o : Outcome) (r : ℕ) where
   pub raised-in : record { plant = x; known = known } ≡ raised n p → o ≡ eventOutcome known → r ≡ outcomeNumber o → OnPlant (faultRaised n) p x r
   unfolding faultRaised
-  raised-in a b d port = event-in p x (raised n p) known o r a b d port
+  raised-in a b d = event-in p x (raised n p) known o r a b d
 
   pub ended-in : record { plant = x; known = known } ≡ ended n p → o ≡ eventOutcome known → r ≡ outcomeNumber o → OnPlant (causeEnded n) p x r
   unfolding causeEnded
-  ended-in a b d port = event-in p x (ended n p) known o r a b d port
+  ended-in a b d = event-in p x (ended n p) known o r a b d
 
 pub din1-in : (p x : Plant) (n : ℕ) (active : Bool) → active ≡ activeOf n → x ≡ withActive active p → OnPlant (din1Set (activeOf n)) p x 0
 unfolding din1Set
-din1-in p x n active a b port = simp (b, a) (refl, refl)
+din1-in p x n active a b port i = simp (b, a) (refl, refl)
 
 pub measured-in : (p x : Plant) (measured : Measured) → x ≡ withMeasured measured p → OnPlant (measuredSet measured) p x 0
 unfolding measuredSet
-measured-in p x measured a port = simp a (refl, refl)
+measured-in p x measured a port i = simp a (refl, refl)
 
 -- ---- an event on the port and the plant
 pub parity-in : (q p y x : Plant) → _≡_ {A = Core} (record { port = y; plant = x }) (portFaulted Parity (record { port = q; plant = p })) → OnPort parityTold q p y x 0
 unfolding parityTold
-parity-in q p y x a pending = simp (← a) (refl, refl)
+parity-in q p y x a pending i = simp (← a) (refl, refl)
 
 pub ticked-in : (q p y x : Plant) (n r : ℕ) (o : Outcome) → _≡_ {A = Ticked} (record { core = record { port = y; plant = x }; outcome = o }) (tickedIn n (record { port = q; plant = p }))
     → r ≡ outcomeNumber o → OnPort (ticked n) q p y x r
 unfolding ticked
-ticked-in q p y x n r o a d pending = simp (← a) (refl, d)
+ticked-in q p y x n r o a d pending i = simp (← a) (refl, d)
 
 -- ---- a call on bytes from the line: what the turn and the parts say is what is left
-pub left-in : (held : List ℕ) (len n : ℕ) (q p out before told : List ℕ) (t : Turned) (a : Received) → (turnIn held q p t ≡ turnOf a) × (out ≡ front (a .reply) before)
-    → n ≡ outcomeNumber (t .outcome) → len ≡ t .pending → told ≡ toldIn t → Leaves (cardOf held len q p) n before out told a
-left-in held len n q p out before told t a e d f g =
+pub left-in : (held : List ℕ) (len n : ℕ) (q p : List ℕ) (i : Identity) (out before told : List ℕ) (t : Turned) (a : Received) → (turnIn held q p i t ≡ turnOf a) × (out ≡ front (a .reply) before)
+    → n ≡ outcomeNumber (t .outcome) → len ≡ t .pending → told ≡ toldIn t → Leaves (cardOf held len q p i) n before out told a
+left-in held len n q p i out before told t a e d f g =
     record {
-      card-left = ap (λ (k : ℕ). cardOf held k q p) f ∙ ap (λ (u : Turn). u .card) (e .0);
+      card-left = ap (λ (k : ℕ). cardOf held k q p i) f ∙ ap (λ (u : Turn). u .card) (e .0);
       number-told = d ∙ ap (λ (u : Turn). outcomeNumber (u .outcome)) (e .0);
       reply-lent = e .1;
       counts-told = g ∙ ap (λ (u : Turn). u .used ∷ u .len ∷ []) (e .0);

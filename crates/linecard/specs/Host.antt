@@ -6,6 +6,7 @@ use mathlib.Core.List.{List}
 use Prim.Native.Nat.{ℕ}
 use lib.Dec.{eqb}
 use Rattle.base.specs.Choice.{pick}
+use Rattle.identity.specs.Identity.{Identity}
 use Rattle.drive.specs.Plant.{Plant}
 use Rattle.pending.specs.declared.Pending.{Pending}
 use Rattle.card.specs.Outcome.{outcomeNumber}
@@ -28,16 +29,17 @@ activeOf n = not (eqb n 0)
 abbrev pub Leaves : After → Card → ℕ → Type 0
 Leaves a k number = (k ≡ a .card) × (number ≡ outcomeNumber (a .outcome))
 
--- an event that touches the plant alone, whatever the port is
+-- an event that touches the plant alone, whatever the port and the identity are
 abbrev pub OnPlant : (Card → After) → (before after : Plant) → ℕ → Type 0
-OnPlant event before after number = (port : Port) → Leaves (event (record { port = port; plant = before })) (record { port = port; plant = after }) number
+OnPlant event before after number =
+    (port : Port) (i : Identity) → Leaves (event (record { port = port; plant = before; identity = i })) (record { port = port; plant = after; identity = i }) number
 
--- an event that touches the port's numbers and the plant, whatever is pending
+-- an event that touches the port's numbers and the plant, whatever is pending and the identity is
 abbrev pub OnPort : (Card → After) → (q p y x : List ℕ) → ℕ → Type 0
 OnPort event q p y x number =
-    (pending : Pending)
-    → Leaves (event (record { port = record { pending = pending; numbers = q }; plant = p })) (record { port = record { pending = pending; numbers = y }; plant = x }) number
+    (pending : Pending) (i : Identity)
+    → Leaves (event (record { port = record { pending = pending; numbers = q }; plant = p; identity = i })) (record { port = record { pending = pending; numbers = y }; plant = x; identity = i }) number
 
--- a restart, whatever bytes the array holds
+-- a restart, whatever bytes the array holds and the identity is
 abbrev pub Restarts : ℕ → (q p : List ℕ) → ℕ → (y x : List ℕ) → Type 0
-Restarts len q p n y x = (held : List ℕ) → cardOf held n y x ≡ restarted (cardOf held len q p)
+Restarts len q p n y x = (held : List ℕ) (i : Identity) → cardOf held n y x i ≡ restarted (cardOf held len q p i)

@@ -4,6 +4,7 @@ use mathlib.Core.List.{List, [], _∷_}
 use Prim.Native.Nat.{ℕ}
 use lib.ListN.{length}
 use Rattle.base.specs.Buffers.{front}
+use Rattle.identity.specs.Identity.{Identity}
 use Rattle.card.specs.Outcome.{outcomeNumber}
 use Rattle.card.specs.declared.state.Card.{Card}
 use Rattle.turn.specs.Turn.{Received}
@@ -23,6 +24,10 @@ pub record Leaves (card : Card) (number : ℕ) (before out told : List ℕ) (a :
   pub number-told : number ≡ outcomeNumber (a .outcome)
   pub reply-lent : out ≡ front (a .reply) before
   pub counts-told : told ≡ toldOf a
+
+-- the same whatever the identity is, which the call is not lent
+abbrev pub LeavesAnyone : (Identity → Card) → ℕ → (before out told : List ℕ) → (Identity → Received) → Type 0
+LeavesAnyone card number before out told a = (i : Identity) → Leaves (card i) number before out told (a i)
 
 -- where the register data lies in its frame: its first place, and its length
 abbrev pub placeOf : List ℕ → List ℕ

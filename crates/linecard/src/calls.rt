@@ -1,5 +1,6 @@
 // Bytes from the line, by one protocol or by the port's, and where register data lies in a frame.
 use drive::Plant;
+use identity::Identity;
 use port::Numbers;
 use port::PROTOCOL;
 use turn::Turned;
@@ -12,7 +13,7 @@ ghost use Rattle.rtu_port.specs.Receive.{rtuReceived};
 ghost use Rattle.ascii_port.specs.Receive.{asciiReceived};
 ghost use Rattle.receive.specs.Receive.{received};
 ghost use Rattle.rtu.specs.Rtu.{registerData};
-ghost use Rattle.linecard.specs.Told.{toldIn, Leaves, placeOf};
+ghost use Rattle.linecard.specs.Told.{toldIn, Leaves, LeavesAnyone, placeOf};
 
 // Tells the host what a call came to: how many bytes are pending, the bytes used and the reply's length, and the outcome's number.
 fn tell(turn: Turned, len: &mut usize, told: &mut [usize; 2]) -> u32
@@ -38,7 +39,7 @@ pub extern "C" fn card_receive_nfo_in(
     reply: &mut [u8],
     told: &mut [usize; 2],
 ) -> u32
-    ensures { λ r. ⌜ Leaves (cardOf (now (held .exit)) (now (len .exit)) (now (port .exit)) (now (plant .exit))) r (now (reply .entry)) (now (reply .exit)) (now (told .exit)) (nfoReceived (cardOf (now (held .entry)) (now (len .entry)) (now (port .entry)) (now (plant .entry))) (now (bytes .entry)) (length (now (reply .entry)))) ⌝ }
+    ensures { λ r. ⌜ LeavesAnyone (cardOf (now (held .exit)) (now (len .exit)) (now (port .exit)) (now (plant .exit))) r (now (reply .entry)) (now (reply .exit)) (now (told .exit)) (λ i. nfoReceived (cardOf (now (held .entry)) (now (len .entry)) (now (port .entry)) (now (plant .entry)) i) (now (bytes .entry)) (length (now (reply .entry)))) ⌝ }
 {
     let n = *len;
     let turn = nfo_port::receive(held, n, port, plant, bytes, reply);
@@ -52,14 +53,15 @@ pub extern "C" fn card_receive_ascii_in(
     len: &mut usize,
     port: &mut Numbers,
     plant: &mut Plant,
+    identity: &Identity,
     bytes: &[u8],
     reply: &mut [u8],
     told: &mut [usize; 2],
 ) -> u32
-    ensures { λ r. ⌜ Leaves (cardOf (now (held .exit)) (now (len .exit)) (now (port .exit)) (now (plant .exit))) r (now (reply .entry)) (now (reply .exit)) (now (told .exit)) (asciiReceived (cardOf (now (held .entry)) (now (len .entry)) (now (port .entry)) (now (plant .entry))) (now (bytes .entry)) (length (now (reply .entry)))) ⌝ }
+    ensures { λ r. ⌜ Leaves (cardOf (now (held .exit)) (now (len .exit)) (now (port .exit)) (now (plant .exit)) (now (identity .entry))) r (now (reply .entry)) (now (reply .exit)) (now (told .exit)) (asciiReceived (cardOf (now (held .entry)) (now (len .entry)) (now (port .entry)) (now (plant .entry)) (now (identity .entry))) (now (bytes .entry)) (length (now (reply .entry)))) ⌝ }
 {
     let n = *len;
-    let turn = ascii_port::receive(held, n, port, plant, bytes, reply);
+    let turn = ascii_port::receive(held, n, port, plant, identity, bytes, reply);
     tell(turn, len, told)
 }
 
@@ -70,14 +72,15 @@ pub extern "C" fn card_receive_rtu_in(
     len: &mut usize,
     port: &mut Numbers,
     plant: &mut Plant,
+    identity: &Identity,
     bytes: &[u8],
     reply: &mut [u8],
     told: &mut [usize; 2],
 ) -> u32
-    ensures { λ r. ⌜ Leaves (cardOf (now (held .exit)) (now (len .exit)) (now (port .exit)) (now (plant .exit))) r (now (reply .entry)) (now (reply .exit)) (now (told .exit)) (rtuReceived (cardOf (now (held .entry)) (now (len .entry)) (now (port .entry)) (now (plant .entry))) (now (bytes .entry)) (length (now (reply .entry)))) ⌝ }
+    ensures { λ r. ⌜ Leaves (cardOf (now (held .exit)) (now (len .exit)) (now (port .exit)) (now (plant .exit)) (now (identity .entry))) r (now (reply .entry)) (now (reply .exit)) (now (told .exit)) (rtuReceived (cardOf (now (held .entry)) (now (len .entry)) (now (port .entry)) (now (plant .entry)) (now (identity .entry))) (now (bytes .entry)) (length (now (reply .entry)))) ⌝ }
 {
     let n = *len;
-    let turn = rtu_port::receive(held, n, port, plant, bytes, reply);
+    let turn = rtu_port::receive(held, n, port, plant, identity, bytes, reply);
     tell(turn, len, told)
 }
 
@@ -88,18 +91,19 @@ pub extern "C" fn card_receive_in(
     len: &mut usize,
     port: &mut Numbers,
     plant: &mut Plant,
+    identity: &Identity,
     bytes: &[u8],
     reply: &mut [u8],
     told: &mut [usize; 2],
 ) -> u32
-    ensures { λ r. ⌜ Leaves (cardOf (now (held .exit)) (now (len .exit)) (now (port .exit)) (now (plant .exit))) r (now (reply .entry)) (now (reply .exit)) (now (told .exit)) (received (cardOf (now (held .entry)) (now (len .entry)) (now (port .entry)) (now (plant .entry))) (now (bytes .entry)) (length (now (reply .entry)))) ⌝ }
+    ensures { λ r. ⌜ Leaves (cardOf (now (held .exit)) (now (len .exit)) (now (port .exit)) (now (plant .exit)) (now (identity .entry))) r (now (reply .entry)) (now (reply .exit)) (now (told .exit)) (received (cardOf (now (held .entry)) (now (len .entry)) (now (port .entry)) (now (plant .entry)) (now (identity .entry))) (now (bytes .entry)) (length (now (reply .entry)))) ⌝ }
 {
     let protocol = port[PROTOCOL];
     if protocol == 1 {
-        return card_receive_rtu_in(held, len, port, plant, bytes, reply, told);
+        return card_receive_rtu_in(held, len, port, plant, identity, bytes, reply, told);
     }
     if protocol == 2 {
-        return card_receive_ascii_in(held, len, port, plant, bytes, reply, told);
+        return card_receive_ascii_in(held, len, port, plant, identity, bytes, reply, told);
     }
     card_receive_nfo_in(held, len, port, plant, bytes, reply, told)
 }

@@ -2,6 +2,7 @@
 use card::Protocol;
 use drive::Measured;
 use drive::Plant;
+use identity::Identity;
 use port::Numbers;
 ghost use mathlib.Core.Path.{_≡_};
 ghost use Prim.Native.Nat.{_%_};
@@ -23,21 +24,24 @@ fn protocol_of(n: u32) -> Protocol
     Protocol::Nfo
 }
 
-// A fresh card: 1 is Modbus RTU, 2 Modbus ASCII, any other number NFO serial. What was in the memory before does not count.
+// A fresh card with the identity that is given: 1 is Modbus RTU, 2 Modbus ASCII, any other number NFO serial. What was in the memory before does not count.
 #[no_mangle]
 pub extern "C" fn card_start_in(
     held: &mut [u8; 512],
     len: &mut usize,
     port: &mut Numbers,
     plant: &mut Plant,
+    identity: &mut Identity,
     protocol: u32,
+    given: &Identity,
 )
-    ensures { λ _. ⌜ cardOf (now (held .exit)) (now (len .exit)) (now (port .exit)) (now (plant .exit)) ≡ started (protocolOf protocol) ⌝ }
+    ensures { λ _. ⌜ cardOf (now (held .exit)) (now (len .exit)) (now (port .exit)) (now (plant .exit)) (now (identity .exit)) ≡ started (protocolOf protocol) (now (given .entry)) ⌝ }
 {
     *held = [0u8; 512];
     *len = 0;
     *port = card::fresh_port(protocol_of(protocol));
     *plant = drive::start();
+    *identity = *given;
 }
 
 // The card restarts. The array of the bytes pending stays as it is; there are none in it then.

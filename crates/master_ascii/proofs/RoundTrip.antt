@@ -9,6 +9,7 @@ use lib.ListN.{length, take, drop}
 use Rattle.base.specs.Bytes.{AllBelow, Bytes}
 use Rattle.base.proofs.Tests.{pick-both}
 use Rattle.base.proofs.Lists.{below-take, below-drop}
+use Rattle.identity.specs.Identity.{Identity}
 use Rattle.hex.specs.Hex.{capitals}
 use Rattle.hex.proofs.RoundTrip.{bytes-below}
 use Rattle.modbus.specs.Request.{requestOf}
@@ -28,7 +29,7 @@ use Rattle.master_reply.specs.Reply.{replyNumber, registersOf, heard, heardOf}
 use Rattle.master_reply.specs.Told.{addressOf, replyUnit, Within, IsReply, InWidth, IsMessage, replyTo, wordsTold, IsAnswer}
 use Rattle.master_reply.proofs.Answered.{answer-heard, reply-heard}
 use Rattle.master_reply.proofs.Only.{heard-only}
-use Rattle.master_reply.proofs.Sizes.{answer-some, reply-some, reply-most, reply-below}
+use Rattle.master_reply.proofs.Sizes.{reply-some, reply-most, reply-below}
 use Rattle.master_ascii.specs.Heard.{asciiHeard}
 
 -- ---- the card reads what was asked
@@ -55,10 +56,10 @@ pub heard-in-capitals : (m : List ℕ) → asciiHeard (capitals m) ≡ asciiHear
 unfolding asciiHeard
 heard-in-capitals m = rw (formed-in-capitals m, bytes-in-capitals m)
 
-pub answer-back : (a : ℕ) (x : Answer) → Within 1 247 a → IsAnswer x → units.InWidth x → asciiHeard (asciiOf a (unitOf x)) ≡ heard (replyTo a x) (wordsTold x)
+pub answer-back : (i : Identity) (a : ℕ) (x : Answer) → Bytes i → Within 1 247 a → IsAnswer x → units.InWidth x → asciiHeard (asciiOf a (unitOf i x)) ≡ heard (replyTo a x) (wordsTold x)
 unfolding AllBelow
-answer-back a x h k w =
-    made a (unitOf x) (omega (arith, h .1), units.unit-below x w) (answer-some x) (omega (arith, units.unit-short x)) ∙ answer-heard a x h k
+answer-back i a x b h k w =
+    made a (unitOf i x) (omega (arith, h .1), units.unit-below i x b w) (units.unit-some i x) (omega (arith, units.unit-short i x)) ∙ answer-heard i a x h k
 
 pub reply-back : (r : Reply) (ws : List ℕ) → IsReply r → length ws ≡ registersOf r → InWidth r ws → (m : List ℕ) → capitals m ≡ asciiOf (addressOf r) (replyUnit r ws)
     → asciiHeard m ≡ heard r ws

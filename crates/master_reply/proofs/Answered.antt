@@ -7,9 +7,12 @@ use native.Mathlib.Omega.{arith}
 use borrow.Author.Tests.{le-leb, lt-leb, eq-eqb, ne-eqb}
 use lib.Bits.{bitOr, or-add-and, and-le-l}
 use lib.ListN.{length, getD}
+use Rattle.identity.specs.Identity.{Identity, objectsUnit, partUnit}
+use Rattle.identity.specs.declared.Part.{Part}
+use Rattle.identity.specs.declared.Part.the-variants.{Objects, Serial}
 use Rattle.modbus_words.specs.Words.{wordBytes, longBytes, wordAt}
 use Rattle.modbus.specs.Request.{label}
-use Rattle.modbus.specs.Answer.{unitOf}
+use Rattle.modbus.specs.Answer.{shortOf, unitOf}
 use Rattle.modbus.specs.declared.replies.Answer.{Answer}
 use Rattle.modbus.specs.declared.replies.Answer.the-variants as answer
 use Rattle.master_reply.specs.declared.Reply.{Reply}
@@ -85,10 +88,17 @@ reply-heard NotAReply ws h e = absurd h
 top-set : (f : ℕ) → 0x80 ≤ bitOr f 0x80
 top-set f = omega (arith, or-add-and f 0x80, and-le-l f 0x80)
 
-pub answer-heard : (a : ℕ) (x : Answer) → Within 1 247 a → IsAnswer x → heardOf a (unitOf x) ≡ heard (replyTo a x) (wordsTold x)
-unfolding unitOf replyUnit wordsBytes longBytes wordBytes
-answer-heard a (answer.Word f w) h k = reply-heard (Data a f 1) (w ∷ []) (h, k, (omega arith, omega arith)) refl
-answer-heard a (answer.Long f v) h k = reply-heard (Data a f 2) (v % 65536 ∷ v / 65536 ∷ []) (h, k, (omega arith, omega arith)) refl
-answer-heard a (answer.Echo f r n) h (inl e) = rw e (reply-heard (One a r n) [] h refl)
-answer-heard a (answer.Echo f r n) h (inr k) = rw (k .0) (reply-heard (Many a r n) [] (h, k .1) refl)
-answer-heard a (answer.Exception f c) h k = reply-heard (Exception a (bitOr f 0x80) c) [] (h, top-set f, k) refl
+-- 43 and 17 are none of the four functions
+part-heard : (i : Identity) (a : ℕ) (part : Part) → Within 1 247 a → heardOf a (partUnit i part) ≡ heard NotAReply []
+unfolding partUnit objectsUnit heardOf replyOf unitTells tellsData tellsOne tellsMany tellsException wordsFrom
+part-heard i a (Objects code first last) h = simp (le-leb 1 a (h .0), le-leb a 247 (h .1))
+part-heard i a Serial h = simp (le-leb 1 a (h .0), le-leb a 247 (h .1))
+
+pub answer-heard : (i : Identity) (a : ℕ) (x : Answer) → Within 1 247 a → IsAnswer x → heardOf a (unitOf i x) ≡ heard (replyTo a x) (wordsTold x)
+unfolding unitOf shortOf replyUnit wordsBytes longBytes wordBytes
+answer-heard i a (answer.Word f w) h k = reply-heard (Data a f 1) (w ∷ []) (h, k, (omega arith, omega arith)) refl
+answer-heard i a (answer.Long f v) h k = reply-heard (Data a f 2) (v % 65536 ∷ v / 65536 ∷ []) (h, k, (omega arith, omega arith)) refl
+answer-heard i a (answer.Echo f r n) h (inl e) = rw e (reply-heard (One a r n) [] h refl)
+answer-heard i a (answer.Echo f r n) h (inr k) = rw (k .0) (reply-heard (Many a r n) [] (h, k .1) refl)
+answer-heard i a (answer.Identity part) h k = part-heard i a part h
+answer-heard i a (answer.Exception f c) h k = reply-heard (Exception a (bitOr f 0x80) c) [] (h, top-set f, k) refl

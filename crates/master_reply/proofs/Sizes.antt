@@ -6,9 +6,6 @@ use native.Mathlib.Omega.{arith}
 use lib.ListN.{length}
 use Rattle.base.specs.Bytes.{AllBelow, Bytes}
 use Rattle.modbus_words.specs.Words.{wordBytes}
-use Rattle.modbus.specs.Answer.{unitOf}
-use Rattle.modbus.specs.declared.replies.Answer.{Answer}
-use Rattle.modbus.specs.declared.replies.Answer.the-variants as answer
 use Rattle.master_reply.specs.declared.Reply.{Reply}
 use Rattle.master_reply.specs.declared.Reply.the-variants.{Data, One, Many, Exception, NotAReply}
 use Rattle.master_reply.specs.Reply.{registersOf}
@@ -31,13 +28,6 @@ reply-most (One a r w) ws h e = omega arith
 reply-most (Many a r n) ws h e = omega arith
 reply-most (Exception a f c) ws h e = omega arith
 reply-most NotAReply ws h e = absurd h
-
-pub answer-some : (x : Answer) → 1 ≤ length (unitOf x)
-unfolding unitOf
-answer-some (answer.Word f w) = omega arith
-answer-some (answer.Long f v) = omega arith
-answer-some (answer.Echo f r n) = omega arith
-answer-some (answer.Exception f c) = omega arith
 
 words-below : (ws : List ℕ) → AllBelow 65536 ws → Bytes (wordsBytes ws)
 unfolding wordsBytes wordBytes AllBelow

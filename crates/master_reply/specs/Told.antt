@@ -64,22 +64,25 @@ InWidth NotAReply words = ⊥
 abbrev pub IsMessage : (ℕ → List ℕ → List ℕ) → List ℕ → Heard → Type 0
 IsMessage made bytes h = IsReply (h .reply) × (bytes ≡ made (addressOf (h .reply)) (replyUnit (h .reply) (wordsHeard h)))
 
--- what a master is to hear of an answer, and the words of a read, "32-bit values low word first"
+-- what a master is to hear of an answer, and the words of a read, "32-bit values low word first". "The master side doesn't speak" 43 and 17: their normal replies are none
 abbrev pub replyTo : ℕ → Answer → Reply
 replyTo address (answer.Word function word) = Data address function 1
 replyTo address (answer.Long function value) = Data address function 2
 replyTo address (answer.Echo function register number) = pick (eqb function 6) (One address register number) (Many address register number)
+replyTo address (answer.Identity part) = NotAReply
 replyTo address (answer.Exception function code) = Exception address (bitOr function 0x80) code
 
 abbrev pub wordsTold : Answer → List ℕ
 wordsTold (answer.Word function word) = word ∷ []
 wordsTold (answer.Long function value) = value % 65536 ∷ value / 65536 ∷ []
 wordsTold (answer.Echo function register number) = []
+wordsTold (answer.Identity part) = []
 wordsTold (answer.Exception function code) = []
 
--- an answer of the four functions, or one of the four exceptions
+-- an answer of the four functions, a part of the identity, or one of the four exceptions
 abbrev pub IsAnswer : Answer → Type 0
 IsAnswer (answer.Word function word) = Within 3 4 function
 IsAnswer (answer.Long function value) = Within 3 4 function
 IsAnswer (answer.Echo function register number) = (function ≡ 6) ⊎ ((function ≡ 16) × Within 1 123 number)
+IsAnswer (answer.Identity part) = Unit {0}
 IsAnswer (answer.Exception function code) = Within 1 4 code

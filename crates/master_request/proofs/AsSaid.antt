@@ -4,14 +4,14 @@ use mathlib.Core.Bool.{true}
 use mathlib.Core.List.{List, [], _∷_, _++_}
 use Prim.Native.Nat.{ℕ, suc, _+_, _-_, _*_, _/_, _≤_, _<_}
 use native.Mathlib.Omega.{arith}
-use borrow.Author.Tests.{le-leb, eq-eqb}
+use borrow.Author.Tests.{le-leb, eq-eqb, ne-eqb}
 use lib.ListN.{length, take, drop}
 use lib.Seq.{take-all}
 use Rattle.base.specs.Bytes.{AllBelow, Bytes}
 use Rattle.base.proofs.Tests.{both-in}
 use Rattle.table.specs.declared.labels.Register.{Register}
 use Rattle.modbus_words.specs.Words.{wordBytes, wordAt}
-use Rattle.modbus.specs.Request.{span, reads, writes, asked, requestOf}
+use Rattle.modbus.specs.Request.{span, reads, writes, asked, askedOf, requestOf}
 use Rattle.modbus.specs.declared.requests.Request.the-variants as request
 use Rattle.modbus_words.proofs.Laws.{word-own}
 use Rattle.modbus.proofs.Laws.{asked-read, asked-one, asked-many}
@@ -22,12 +22,12 @@ use Rattle.master_request.specs.Said.{requestSaid, InWidth}
 use Rattle.master_request.proofs.Limits.{read-out, many-out, said-address}
 
 -- ---- what is read of a unit's first five bytes, and of a 16
-head-read : (f : ℕ) (r : Register) (n : ℕ) → requestOf (headOf f r n) ≡ asked 5 f (r .0) n 0
-unfolding requestOf headOf wordBytes wordAt
-head-read f r n = ap₂ (λ (x y : ℕ). asked 5 f x y 0) (word-own (r .0)) (word-own n)
+head-read : (f : ℕ) (r : Register) (n : ℕ) → f < 17 → requestOf (headOf f r n) ≡ asked 5 f (r .0) n 0
+unfolding requestOf askedOf headOf wordBytes wordAt
+head-read f r n h = rw (ne-eqb f 43 (λ e. omega arith), ne-eqb f 17 (λ e. omega arith)) (ap₂ (λ (x y : ℕ). asked 5 f x y 0) (word-own (r .0)) (word-own n))
 
 many-read : (r : Register) (s : List ℕ) → requestOf (manyUnit r s) ≡ asked (6 + length s) 16 (r .0) (length s / 2) (length s)
-unfolding requestOf manyUnit headOf wordBytes wordAt
+unfolding requestOf askedOf manyUnit headOf wordBytes wordAt
 many-read r s =
     let size : suc (suc (suc (suc (suc (suc (length s)))))) ≡ 6 + length s = omega arith in
     (λ i. asked (size i) 16 (word-own (r .0) i) (word-own (length s / 2) i) (length s))
@@ -46,9 +46,9 @@ writes-said a n e =
 
 pub said-read : (a : ℕ) (ask : Ask) (s : List ℕ) → sayable a ask (length s) ≡ true → requestOf (requestUnit ask s) ≡ requestSaid ask s
 unfolding sayable requestUnit
-said-read a (Holding r n) s e = head-read 3 r n ∙ sym (asked-read 5 3 (r .0) n 0 (omega arith) (omega arith) true (sym (reads-said a n e)) refl)
-said-read a (Input r n) s e = head-read 4 r n ∙ sym (asked-read 5 4 (r .0) n 0 (omega arith) (omega arith) true (sym (reads-said a n e)) refl)
-said-read a (One r w) s e = head-read 6 r w ∙ sym (asked-one 5 6 (r .0) w 0 refl refl)
+said-read a (Holding r n) s e = head-read 3 r n (omega arith) ∙ sym (asked-read 5 3 (r .0) n 0 (omega arith) (omega arith) true (sym (reads-said a n e)) refl)
+said-read a (Input r n) s e = head-read 4 r n (omega arith) ∙ sym (asked-read 5 4 (r .0) n 0 (omega arith) (omega arith) true (sym (reads-said a n e)) refl)
+said-read a (One r w) s e = head-read 6 r w (omega arith) ∙ sym (asked-one 5 6 (r .0) w 0 refl refl)
 said-read a (Many r) s e =
     let twice : 6 + 2 * (length s / 2) ≡ 6 + length s = omega (arith, many-out a (length s) e .whole) in
     many-read r s

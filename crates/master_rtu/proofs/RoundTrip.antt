@@ -12,11 +12,12 @@ use Rattle.base.proofs.Tests.{pick-both}
 use Rattle.base.proofs.Lists.{below-drop}
 use Rattle.checks.specs.Crc.{bodyOf, crcBytes}
 use Rattle.checks.proofs.Laws.{body-below}
+use Rattle.identity.specs.Identity.{Identity}
 use Rattle.modbus_words.specs.Words.{wordBytes}
 use Rattle.modbus.specs.Request.{requestOf}
 use Rattle.modbus.specs.Answer.{unitOf}
 use Rattle.modbus.specs.declared.replies.Answer.{Answer}
-use Rattle.modbus.proofs.Units.{unit-short}
+use Rattle.modbus.proofs.Units.{unit-short, unit-some}
 use Rattle.rtu.specs.Rtu.{frameHolds, addressIn, unitIn, rtuOf, partOf, dataOf, registerSpan, registerData}
 use Rattle.rtu.proofs.RoundTrip.{own-address, own-unit, own-frame, frame-only}
 use Rattle.master_request.specs.declared.Ask.{Ask}
@@ -31,7 +32,7 @@ use Rattle.master_reply.specs.Reply.{replyNumber, registersOf, heard, heardOf}
 use Rattle.master_reply.specs.Told.{addressOf, replyUnit, Within, IsReply, IsMessage, replyTo, wordsTold, IsAnswer}
 use Rattle.master_reply.proofs.Answered.{answer-heard, reply-heard}
 use Rattle.master_reply.proofs.Only.{heard-only}
-use Rattle.master_reply.proofs.Sizes.{answer-some, reply-some, reply-most}
+use Rattle.master_reply.proofs.Sizes.{reply-some, reply-most}
 use Rattle.master_rtu.specs.Heard.{rtuHeard}
 
 -- ---- the card reads what was asked
@@ -61,8 +62,8 @@ made : (a : ℕ) (u : List ℕ) → 1 ≤ length u → length u ≤ 253 → rtuH
 unfolding rtuHeard
 made a u l h = rw (own-frame a u l h, own-address a u, own-unit a u)
 
-pub answer-back : (a : ℕ) (x : Answer) → Within 1 247 a → IsAnswer x → rtuHeard (rtuOf a (unitOf x)) ≡ heard (replyTo a x) (wordsTold x)
-answer-back a x h k = made a (unitOf x) (answer-some x) (omega (arith, unit-short x)) ∙ answer-heard a x h k
+pub answer-back : (i : Identity) (a : ℕ) (x : Answer) → Within 1 247 a → IsAnswer x → rtuHeard (rtuOf a (unitOf i x)) ≡ heard (replyTo a x) (wordsTold x)
+answer-back i a x h k = made a (unitOf i x) (unit-some i x) (omega (arith, unit-short i x)) ∙ answer-heard i a x h k
 
 pub reply-back : (r : Reply) (ws : List ℕ) → IsReply r → length ws ≡ registersOf r → rtuHeard (rtuOf (addressOf r) (replyUnit r ws)) ≡ heard r ws
 reply-back r ws h e = made (addressOf r) (replyUnit r ws) (reply-some r ws h) (omega (arith, reply-most r ws h e)) ∙ reply-heard r ws h e

@@ -1,17 +1,18 @@
 -- What the code's tests and calls show of requests. Assumes nothing.
 use mathlib.Core.Path.{_≡_, refl, sym, _∙_}
-use mathlib.Core.Bool.{Bool, true, false}
+use mathlib.Core.Bool.{Bool, true, false, not}
 use mathlib.Core.List.{List}
 use Prim.Native.Nat.{ℕ, _+_, _*_, _≤_, _<_}
 use native.Mathlib.Omega.{arith}
 use lib.ListN.{length, getD}
-use borrow.Author.Tests.{eq-eqb, ne-eqb, eqb-false}
-use lib.Dec.{eqb}
-use Rattle.base.specs.Choice.{pick, either}
+use borrow.Author.Tests.{lt-leb, le-leb, eq-eqb, ne-eqb, eqb-false}
+use lib.Dec.{eqb, leb}
+use Rattle.base.specs.Choice.{pick, both, either}
+use Rattle.base.proofs.Tests.{both-false, pick-both}
 use Rattle.modbus_words.specs.Words.{wordAt}
-use Rattle.modbus.specs.Request.{label, span, reads, writes, asked, requestOf}
+use Rattle.modbus.specs.Request.{label, span, reads, writes, asked, askedOf, identifying, numbering, requestOf}
 use Rattle.modbus.specs.declared.requests.Request.{Request}
-use Rattle.modbus.specs.declared.requests.Request.the-variants.{Read, One, Many, Malformed, Unknown}
+use Rattle.modbus.specs.declared.requests.Request.the-variants.{Read, One, Many, Identify, Serial, Malformed, Unknown}
 
 -- ---- requests, by the function and what was read of the unit
 read-known : (f : ℕ) → 3 ≤ f → f < 5 → either (eqb f 3) (eqb f 4) ≡ true
@@ -60,7 +61,88 @@ module _ (n f a b x : ℕ) where
   unfolding asked
   asked-above l m o = simp (ne-eqb f 3 (λ e. omega arith), ne-eqb f 4 (λ e. omega arith), ne-eqb f 6 m, ne-eqb f 16 o)
 
--- what was read of the unit is what the definition reads
-pub request-read : (u : List ℕ) (f a b x : ℕ) (r : Request) → f ≡ getD u 0 0 → a ≡ wordAt u 1 → b ≡ wordAt u 3 → x ≡ getD u 5 0 → r ≡ asked (length u) f a b x → r ≡ requestOf u
-unfolding requestOf
-request-read u f a b x r p q s o e = rw (← p, ← q, ← s, ← o) e
+-- 43, type 14, by its code
+abbrev known : ℕ → Bool
+known code = either (eqb code 1) (either (eqb code 2) (eqb code 4))
+
+known-low : (code : ℕ) → 1 ≤ code → code < 3 → known code ≡ true
+known-low code l h = go (eqb code 1) refl
+  where
+    go : (t : Bool) → eqb code 1 ≡ t → either t (either (eqb code 2) (eqb code 4)) ≡ true
+    go true e = refl
+    go false e = let other : code ≡ 1 → ⊥ = eqb-false code 1 e in rw (eq-eqb code 2 (omega arith))
+
+known-none : (code : ℕ) → (code ≡ 1 → ⊥) → (code ≡ 2 → ⊥) → (code ≡ 4 → ⊥) → known code ≡ false
+known-none code h k l = simp (ne-eqb code 1 h, ne-eqb code 2 k, ne-eqb code 4 l)
+
+module _ (n kind code object : ℕ) where
+  -- no type byte
+  pub identifying-short : n < 2 → Malformed 43 ≡ identifying n kind code object
+  unfolding identifying
+  identifying-short h = simp (lt-leb 2 n h, ne-eqb n 4 (λ e. omega arith))
+
+  -- another type
+  pub identifying-other : 2 ≤ n → (kind ≡ 14 → ⊥) → Unknown 43 ≡ identifying n kind code object
+  unfolding identifying
+  identifying-other h k = simp (le-leb 2 n h, ne-eqb kind 14 k)
+
+  typed : kind ≡ 14 → pick (both (eqb n 4) (known code)) (Identify code object) (Malformed 43) ≡ identifying n kind code object
+  unfolding identifying
+  typed k = rw (k, both-false (leb 2 n))
+
+  -- another length
+  pub identifying-long : kind ≡ 14 → (n ≡ 4 → ⊥) → Malformed 43 ≡ identifying n kind code object
+  identifying-long k h = rw (ne-eqb n 4 h) at (typed k)
+
+  sized : kind ≡ 14 → n ≡ 4 → (t : Bool) → known code ≡ t → pick t (Identify code object) (Malformed 43) ≡ identifying n kind code object
+  sized k h t e = rw (eq-eqb n 4 h, e) at (typed k)
+
+  -- codes 01 and 02; code 04; any other
+  pub identifying-low : kind ≡ 14 → n ≡ 4 → 1 ≤ code → code < 3 → Identify code object ≡ identifying n kind code object
+  identifying-low k h l m = sized k h true (known-low code l m)
+
+  pub identifying-four : kind ≡ 14 → n ≡ 4 → code ≡ 4 → Identify code object ≡ identifying n kind code object
+  identifying-four k h e = sized k h true (rw e)
+
+  pub identifying-below : kind ≡ 14 → n ≡ 4 → code < 1 → Malformed 43 ≡ identifying n kind code object
+  identifying-below k h l = sized k h false (known-none code (λ e. omega arith) (λ e. omega arith) (λ e. omega arith))
+
+  pub identifying-above : kind ≡ 14 → n ≡ 4 → 3 ≤ code → (code ≡ 4 → ⊥) → Malformed 43 ≡ identifying n kind code object
+  identifying-above k h l m = sized k h false (known-none code (λ e. omega arith) (λ e. omega arith) m)
+
+-- ---- what was read of the unit is what the definition reads
+module _ (u : List ℕ) where
+  pub request-read : (f a b x : ℕ) (r : Request) → f ≡ getD u 0 0 → a ≡ wordAt u 1 → b ≡ wordAt u 3 → x ≡ getD u 5 0 → r ≡ asked (length u) f a b x → r ≡ askedOf u
+  unfolding askedOf
+  request-read f a b x r p q s o e = rw (← p, ← q, ← s, ← o) e
+
+  -- 43; 17; any other function
+  module _ (f : ℕ) (r : Request) (first : f ≡ getD u 0 0) where
+    pub request-identify : (kind code object : ℕ) → f ≡ 43 → kind ≡ getD u 1 0 → code ≡ getD u 2 0 → object ≡ getD u 3 0 → r ≡ identifying (length u) kind code object → r ≡ requestOf u
+    unfolding requestOf
+    request-identify kind code object h q s o e = rw (← first, ← q, ← s, ← o, h) e
+
+    pub request-number : f ≡ 17 → r ≡ numbering (length u) → r ≡ requestOf u
+    unfolding requestOf
+    request-number h e = rw (← first, h) e
+
+    pub request-asked : (f ≡ 43 → ⊥) → (f ≡ 17 → ⊥) → r ≡ askedOf u → r ≡ requestOf u
+    unfolding requestOf
+    request-asked h k e = rw (← first, ne-eqb f 43 h, ne-eqb f 17 k) e
+
+-- ---- what holds of each kind of request holds of what a unit asks
+pub asked-all : (Q : Request → Type 0) (n f a k m : ℕ) → Q (Read f (label a) k) → Q (One (label a) k) → Q (Many (label a) k (span 6 (6 + 2 * k))) → ((g : ℕ) → Q (Malformed g))
+    → Q (Unknown f) → Q (asked n f a k m)
+unfolding asked
+asked-all Q n f a k m read one many bad other =
+    pick-both Q (either (eqb f 3) (eqb f 4)) (λ _. pick-both Q (reads n k) (λ _. read) (λ _. bad f))
+    (λ _. pick-both Q (eqb f 6) (λ _. pick-both Q (eqb n 5) (λ _. one) (λ _. bad 6))
+    (λ _. pick-both Q (eqb f 16) (λ _. pick-both Q (writes n k m) (λ _. many) (λ _. bad 16)) (λ _. other)))
+
+pub request-all : (Q : Request → Type 0) (u : List ℕ) → Q (Identify (getD u 2 0) (getD u 3 0)) → Q Serial → Q (Malformed 43) → Q (Malformed 17) → Q (Unknown 43) → Q (askedOf u) → Q (requestOf u)
+unfolding requestOf identifying numbering
+request-all Q u identify serial bad-43 bad-17 other-43 others =
+    pick-both Q (eqb (getD u 0 0) 43)
+    (λ _. pick-both Q (both (leb 2 (length u)) (not (eqb (getD u 1 0) 14))) (λ _. other-43)
+    (λ _. pick-both Q (both (eqb (length u) 4) (either (eqb (getD u 2 0) 1) (either (eqb (getD u 2 0) 2) (eqb (getD u 2 0) 4)))) (λ _. identify) (λ _. bad-43)))
+    (λ _. pick-both Q (eqb (getD u 0 0) 17) (λ _. pick-both Q (eqb (length u) 1) (λ _. serial) (λ _. bad-17)) (λ _. others))

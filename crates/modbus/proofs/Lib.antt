@@ -1,4 +1,6 @@
 pub mod Laws
-pub mod Copies
+pub mod Copying
+pub mod Objects
+pub mod Written
 pub mod Units
 pub mod Buffers

@@ -1,66 +1,120 @@
 -- What the writer of data units stores: each answer's unit, from the bytes that the code put together. Assumes nothing.
-use mathlib.Core.Path.{_≡_, sym, ap, _∙_}
-use mathlib.Core.List.{List, _∷_}
+use mathlib.Core.Path.{_≡_, refl, sym, ap, _∙_}
+use mathlib.Core.List.{List, [], _∷_}
+use mathlib.Core.Logic.{inl, inr}
+use types.Run.{OneOf}
+use denote.Enum.Declared.{tagOf}
 use Prim.Native.Nat.{ℕ, suc, _+_, _-_, _≤_, _<_}
 use native.Mathlib.Omega.{arith}
 use mir.Syntax.{w64}
 use mir.Val.{Fits}
 use lib.Bits.{or-lt}
-use lib.ListN.{length, set, length-set}
+use lib.ListN.{length, drop, set, length-set, length-take}
 use lib.Seq.{sets, length-sets}
 use borrow.Rule.Slice.PartMut.{midOf, putMid}
 use Rattle.base.specs.Bytes.{AllBelow, Bytes}
+use Rattle.base.proofs.Lists.{below-take, below-drop}
 use Rattle.base.proofs.Sets.{sets-out, sets-rest, headed}
+use Rattle.identity.specs.Identity as Identities
+use Rattle.identity.specs.declared.Part.{Part}
+use Rattle.identity.specs.declared.Part.the-variants.{Objects, Serial}
 use Rattle.modbus_words.specs.Words.{wordBytes, longBytes}
-use Rattle.modbus.specs.Answer.{unitOf}
+use Rattle.modbus.specs.Answer.{shortOf, unitOf}
 use Rattle.modbus.specs.declared.replies.Answer.{Answer}
-use Rattle.modbus.specs.declared.replies.Answer.the-variants.{Word, Long, Echo, Exception}
+use Rattle.modbus.specs.declared.replies.Answer.the-variants.{Word, Long, Echo, Identity, Exception}
+use Rattle.modbus.proofs.Objects.{objects-count, told-short, told-below}
+use Rattle.modbus.proofs.replies.Answer.{the-type}
 
 -- a copy of the unit of the case k tells its count and stores it
-pub unit-count : (answer k : Answer) (n : ℕ) → answer ≡ k → n ≡ length (unitOf k) → n ≡ length (unitOf answer)
-unit-count answer k n e p = rw e p
+pub short-count : (answer k : Answer) (n : ℕ) → answer ≡ k → n ≡ length (shortOf k) → n ≡ length (shortOf answer)
+short-count answer k n e p = rw e p
 
-pub unit-stores : (answer k : Answer) (before now : List ℕ) → answer ≡ k → now ≡ sets before 0 (unitOf k) → now ≡ sets before 0 (unitOf answer)
-unit-stores answer k before now e p = rw e p
+pub short-stores : (answer k : Answer) (before now : List ℕ) → answer ≡ k → now ≡ sets before 0 (shortOf k) → now ≡ sets before 0 (shortOf answer)
+short-stores answer k before now e p = rw e p
 
--- no unit has more than 6 bytes
-pub unit-short : (answer : Answer) → length (unitOf answer) ≤ 6
-unfolding unitOf longBytes wordBytes
-unit-short (Word f w) = omega arith
-unit-short (Long f v) = omega arith
-unit-short (Echo f r w) = omega arith
-unit-short (Exception f e) = omega arith
+-- an answer that is no part of the identity, by its tag, has its short unit
+abbrev pub Short : Answer → Type 0
+Short answer = OneOf (0 ∷ 1 ∷ 2 ∷ 4 ∷ []) (tagOf the-type answer)
 
--- the unit of an answer whose numbers are in their widths is bytes
+short-unit : (i : Identities.Identity) (answer : Answer) → Short answer → shortOf answer ≡ unitOf i answer
+unfolding unitOf
+short-unit i (Word f w) t = refl
+short-unit i (Long f v) t = refl
+short-unit i (Echo f r n) t = refl
+short-unit i (Identity part) (inl e) = absurd (omega (arith, e))
+short-unit i (Identity part) (inr (inl e)) = absurd (omega (arith, e))
+short-unit i (Identity part) (inr (inr (inl e))) = absurd (omega (arith, e))
+short-unit i (Identity part) (inr (inr (inr e))) = absurd (omega (arith, e))
+short-unit i (Exception f c) t = refl
+
+-- ---- how long a unit is
+-- one that tells no part of the identity has 6 bytes at most
+pub short-most : (answer : Answer) → length (shortOf answer) ≤ 6
+unfolding shortOf longBytes wordBytes
+short-most (Word f w) = omega arith
+short-most (Long f v) = omega arith
+short-most (Echo f r n) = omega arith
+short-most (Identity p) = omega arith
+short-most (Exception f e) = omega arith
+
+-- and no unit at all more than 72: seven bytes before the objects
+pub unit-short : (i : Identities.Identity) (answer : Answer) → length (unitOf i answer) ≤ 72
+unfolding unitOf Identities.partUnit Identities.objectsUnit Identities.serial
+unit-short i (Word f w) = omega (arith, short-most (Word f w))
+unit-short i (Long f v) = omega (arith, short-most (Long f v))
+unit-short i (Echo f r n) = omega (arith, short-most (Echo f r n))
+unit-short i (Identity (Objects code first last)) = omega (arith, told-short first last i)
+unit-short i (Identity Serial) = omega (arith, length-take 16 (drop 25 i))
+unit-short i (Exception f e) = omega (arith, short-most (Exception f e))
+
+-- and each has a function at least
+pub unit-some : (i : Identities.Identity) (answer : Answer) → 1 ≤ length (unitOf i answer)
+unfolding unitOf shortOf Identities.partUnit Identities.objectsUnit
+unit-some i (Word f w) = omega arith
+unit-some i (Long f v) = omega arith
+unit-some i (Echo f r n) = omega arith
+unit-some i (Identity (Objects code first last)) = omega arith
+unit-some i (Identity Serial) = omega arith
+unit-some i (Exception f e) = omega arith
+
+-- ---- the unit of an answer whose numbers are in their widths is bytes
 abbrev pub InWidth : Answer → Type 0
 InWidth (Word f w) = (f < 256) × (w < 65536)
 InWidth (Long f v) = (f < 256) × (v < 4294967296)
 InWidth (Echo f r n) = (f < 256) × (r .0 < 65536) × (n < 65536)
+InWidth (Identity (Objects code first last)) = code < 256
+InWidth (Identity Serial) = Unit {0}
 InWidth (Exception f e) = (f < 256) × (e < 256)
 
-pub unit-below : (answer : Answer) → InWidth answer → Bytes (unitOf answer)
-unfolding unitOf longBytes wordBytes AllBelow
-unit-below (Word f w) h = (h .0, (omega arith, (omega (arith, h .1), (omega arith, tt))))
-unit-below (Long f v) h = (h .0, (omega arith, (omega arith, (omega arith, (omega (arith, h .1), (omega arith, tt))))))
-unit-below (Echo f r n) h = (h .0, (omega (arith, h .1), (omega arith, (omega (arith, h .2), (omega arith, tt)))))
-unit-below (Exception f e) h = (or-lt 8 f 0x80 (h .0) (omega arith), (h .1, tt))
+pub unit-below : (i : Identities.Identity) (answer : Answer) → Bytes i → InWidth answer → Bytes (unitOf i answer)
+unfolding unitOf shortOf longBytes wordBytes AllBelow Identities.partUnit Identities.objectsUnit Identities.serial
+unit-below i (Word f w) b h = (h .0, (omega arith, (omega (arith, h .1), (omega arith, tt))))
+unit-below i (Long f v) b h = (h .0, (omega arith, (omega arith, (omega arith, (omega (arith, h .1), (omega arith, tt))))))
+unit-below i (Echo f r n) b h = (h .0, (omega (arith, h .1), (omega arith, (omega (arith, h .2), (omega arith, tt)))))
+unit-below i (Identity (Objects code first last)) b h =
+    (omega arith, (omega arith, (h, (omega arith, (omega arith, (omega arith, (omega (arith, objects-count first last i), told-below first last i b)))))))
+unit-below i (Identity Serial) b h = (omega arith, (omega arith, below-take 256 16 (drop 25 i) (below-drop 256 25 i b)))
+unit-below i (Exception f e) b h = (or-lt 8 f 0x80 (h .0) (omega arith), (h .1, tt))
 
 -- ---- an address before it
-pub body-fits : (answer : Answer) (n : ℕ) → n ≡ length (unitOf answer) → Fits w64 (n + 1)
-body-fits answer n e = omega (arith, unit-short answer)
+pub body-fits : (i : Identities.Identity) (answer : Answer) (n : ℕ) → n ≡ length (unitOf i answer) → Fits w64 (n + 1)
+body-fits i answer n e = omega (arith, unit-short i answer)
+
+pub part-fits : (i : Identities.Identity) (part : Part) (n : ℕ) → n ≡ length (Identities.partUnit i part) → Fits w64 (n + 1)
+unfolding unitOf
+part-fits i part n e = body-fits i (Identity part) n e
+
+pub short-fits : (answer : Answer) (n : ℕ) → n ≡ length (shortOf answer) → Fits w64 (n + 1)
+short-fits answer n e = omega (arith, short-most answer)
 
 pub body-count : (n : ℕ) (unit : List ℕ) → n ≡ length unit → n + 1 ≡ suc (length unit)
 body-count n unit e = omega arith
 
--- through the part of the slice `before` from its second byte on, which was lent and came back as l
-pub body-stores : (address : ℕ) (unit before l : List ℕ) → (length before ≡ 0 → ⊥)
-    → l ≡ sets (midOf 1 (length (set before 0 address) - 1) (set before 0 address)) 0 unit
-    → putMid 1 (length (set before 0 address) - 1) (set before 0 address) l ≡ sets before 0 (address ∷ unit)
-body-stores address unit before l some e = headed before unit l address (omega arith) e
+-- the slice after the store of the address; its part from j on comes back as l, as stores made it, and the slice is as long as it was
+abbrev Behind : ℕ → List ℕ → List ℕ → List ℕ → Type 0
+Behind j headed unit l = l ≡ sets (midOf j (length headed - j) headed) 0 unit
 
--- a part from j on that comes back as stores made it leaves the slice as long as it was
-pub body-kept : (address j : ℕ) (unit before l : List ℕ) → j ≤ 1 → (length before ≡ 0 → ⊥)
-    → l ≡ sets (midOf j (length (set before 0 address) - j) (set before 0 address)) 0 unit
+pub body-kept : (address j : ℕ) (unit before l : List ℕ) → j ≤ 1 → (length before ≡ 0 → ⊥) → Behind j (set before 0 address) unit l
     → length (putMid j (length (set before 0 address) - j) (set before 0 address) l) ≡ length before
 body-kept address j unit before l h some e =
     ap (λ (y : List ℕ). length (putMid j (length (set before 0 address) - j) (set before 0 address) y)) e
@@ -73,3 +127,50 @@ pub body-none : (address : ℕ) (unit before now : List ℕ) → length before �
 body-none address unit before now h e =
     let none : length before ≤ 0 = omega arith in
     e ∙ sets-out unit before 0 none ∙ sym (sets-out (address ∷ unit) before 0 none)
+
+-- ---- what is told and stored of a part of the identity, or of a short unit, is the answer's: by itself, and behind an address
+module _ (i : Identities.Identity) (answer : Answer) (u : List ℕ) (same : u ≡ unitOf i answer) where
+  told : (n : ℕ) → n ≡ length u → n ≡ length (unitOf i answer)
+  told n e = e ∙ ap length same
+
+  stored : (before now : List ℕ) → now ≡ sets before 0 u → now ≡ sets before 0 (unitOf i answer)
+  stored before now e = e ∙ ap (sets before 0) same
+
+  told-behind : (n : ℕ) → n ≡ length u → n + 1 ≡ suc (length (unitOf i answer))
+  told-behind n e = body-count n (unitOf i answer) (told n e)
+
+  stored-behind : (address : ℕ) (before l : List ℕ) → (length before ≡ 0 → ⊥) → Behind 1 (set before 0 address) u l
+      → putMid 1 (length (set before 0 address) - 1) (set before 0 address) l ≡ sets before 0 (address ∷ unitOf i answer)
+  stored-behind address before l some e = headed before (unitOf i answer) l address (omega arith) (stored (midOf 1 (length (set before 0 address) - 1) (set before 0 address)) l e)
+
+module _ (i : Identities.Identity) (answer : Answer) (part : Part) (is : answer ≡ Identity part) where
+  same : Identities.partUnit i part ≡ unitOf i answer
+  unfolding unitOf
+  same = rw is refl
+
+  pub part-told : (n : ℕ) → n ≡ length (Identities.partUnit i part) → n ≡ length (unitOf i answer)
+  part-told = told i answer (Identities.partUnit i part) same
+
+  pub part-stored : (before now : List ℕ) → now ≡ sets before 0 (Identities.partUnit i part) → now ≡ sets before 0 (unitOf i answer)
+  part-stored = stored i answer (Identities.partUnit i part) same
+
+  pub part-told-behind : (n : ℕ) → n ≡ length (Identities.partUnit i part) → n + 1 ≡ suc (length (unitOf i answer))
+  part-told-behind = told-behind i answer (Identities.partUnit i part) same
+
+  pub part-stored-behind : (address : ℕ) (before l : List ℕ) → (length before ≡ 0 → ⊥) → Behind 1 (set before 0 address) (Identities.partUnit i part) l
+      → putMid 1 (length (set before 0 address) - 1) (set before 0 address) l ≡ sets before 0 (address ∷ unitOf i answer)
+  part-stored-behind = stored-behind i answer (Identities.partUnit i part) same
+
+module _ (i : Identities.Identity) (answer : Answer) (is : Short answer) where
+  pub short-told : (n : ℕ) → n ≡ length (shortOf answer) → n ≡ length (unitOf i answer)
+  short-told = told i answer (shortOf answer) (short-unit i answer is)
+
+  pub short-stored : (before now : List ℕ) → now ≡ sets before 0 (shortOf answer) → now ≡ sets before 0 (unitOf i answer)
+  short-stored = stored i answer (shortOf answer) (short-unit i answer is)
+
+  pub short-told-behind : (n : ℕ) → n ≡ length (shortOf answer) → n + 1 ≡ suc (length (unitOf i answer))
+  short-told-behind = told-behind i answer (shortOf answer) (short-unit i answer is)
+
+  pub short-stored-behind : (address : ℕ) (before l : List ℕ) → (length before ≡ 0 → ⊥) → Behind 1 (set before 0 address) (shortOf answer) l
+      → putMid 1 (length (set before 0 address) - 1) (set before 0 address) l ≡ sets before 0 (address ∷ unitOf i answer)
+  short-stored-behind = stored-behind i answer (shortOf answer) (short-unit i answer is)

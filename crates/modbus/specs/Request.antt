@@ -1,5 +1,5 @@
--- What the data unit of a request asks: "Functions 03, 04 (same as 03; ours), 06, 16." Assumes nothing.
-use mathlib.Core.Bool.{Bool}
+-- What the data unit of a request asks: "Functions 03, 04 (same as 03; ours), 06, 16", "function 43, type 14", "and function 17". Assumes nothing.
+use mathlib.Core.Bool.{Bool, not}
 use mathlib.Core.List.{List}
 use Prim.Native.Nat.{ℕ, _+_, _*_}
 use lib.Dec.{leb, eqb}
@@ -9,7 +9,7 @@ use Rattle.table.specs.declared.labels.Register.{Register}
 use Rattle.modbus_words.specs.Words.{wordAt}
 use Rattle.modbus.specs.declared.requests.Span.{Span}
 use Rattle.modbus.specs.declared.requests.Request.{Request}
-use Rattle.modbus.specs.declared.requests.Request.the-variants.{Read, One, Many, Malformed, Unknown}
+use Rattle.modbus.specs.declared.requests.Request.the-variants.{Read, One, Many, Identify, Serial, Malformed, Unknown}
 
 abbrev pub label : ℕ → Register
 label n = record { 0 = n }
@@ -37,6 +37,23 @@ asked size function register number bytes =
     (pick (eqb function 16) (pick (writes size number bytes) (Many (label register) number (span 6 (6 + 2 * number))) (Malformed 16))
     (Unknown function)))
 
--- of no bytes at all, which no line brings, the function is 0
+-- 43, 4 bytes:  43, type 14, identification code, object; "codes 01, 02 and 04". "Refusals: a type other than 14 is 9; wrong length (no type byte too) or identification
+-- code is 8"
+unfoldable pub identifying : (size kind code object : ℕ) → Request
+identifying size kind code object =
+    pick (both (leb 2 size) (not (eqb kind 14))) (Unknown 43)
+    (pick (both (eqb size 4) (either (eqb code 1) (either (eqb code 2) (eqb code 4)))) (Identify code object) (Malformed 43))
+
+-- 17, 1 byte:  17
+unfoldable pub numbering : (size : ℕ) → Request
+numbering size = pick (eqb size 1) Serial (Malformed 17)
+
+-- what the four functions ask, by what stands at these places; any other is unknown. Of no bytes at all, which no line brings, the function is 0
+unfoldable pub askedOf : List ℕ → Request
+askedOf unit = asked (length unit) (getD unit 0 0) (wordAt unit 1) (wordAt unit 3) (getD unit 5 0)
+
+-- what a unit asks: 43 and 17 by their own layouts, any other function among the four
 unfoldable pub requestOf : List ℕ → Request
-requestOf unit = asked (length unit) (getD unit 0 0) (wordAt unit 1) (wordAt unit 3) (getD unit 5 0)
+requestOf unit =
+    pick (eqb (getD unit 0 0) 43) (identifying (length unit) (getD unit 1 0) (getD unit 2 0) (getD unit 3 0))
+    (pick (eqb (getD unit 0 0) 17) (numbering (length unit)) (askedOf unit))

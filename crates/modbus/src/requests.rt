@@ -3,7 +3,7 @@ use modbus_words::byte_at;
 use modbus_words::word_at;
 use table::Register;
 ghost use mathlib.Core.Path.{_≡_};
-ghost use Rattle.modbus.specs.Request.{reads, writes, asked, requestOf};
+ghost use Rattle.modbus.specs.Request.{reads, writes, asked, askedOf, identifying, numbering, requestOf};
 
 // A part of a slice: the place of its first byte, and the place after its last.
 pub struct Span {
@@ -19,9 +19,13 @@ pub enum Request {
     One(Register, u16),
     // 16: the first register, the count, the place of the register bytes in the unit
     Many(Register, u16, Span),
-    // one of these functions, with a length or a count that it does not have
+    // 43, type 14: the identification code, the object
+    Identify(u8, u8),
+    // 17
+    Serial,
+    // one of these functions, with a length, a count or an identification code that it does not have
     Malformed(u8),
-    // any other function
+    // any other function, or 43 of another type
     Unknown(u8),
 }
 
@@ -83,12 +87,57 @@ fn asked(size: usize, function: u8, register: u16, number: u16, bytes: u8) -> Re
     }
 }
 
-// What the data unit `unit` asks: its function, label and numbers, or that it is malformed or of no known function.
-pub fn request_of(unit: &[u8]) -> Request
-    ensures { λ r. ⌜ r ≡ requestOf (now (unit .entry)) ⌝ }
+// What a unit of `size` bytes with function 43 asks, by its type, its identification code and its object.
+fn identifying(size: usize, kind: u8, code: u8, object: u8) -> Request
+    ensures { λ r. ⌜ r ≡ identifying size kind code object ⌝ }
+{
+    if size < 2 {
+        return Request::Malformed(43);
+    }
+    if kind != 14 {
+        return Request::Unknown(43);
+    }
+    if size != 4 {
+        return Request::Malformed(43);
+    }
+    match code {
+        1 | 2 | 4 => Request::Identify(code, object),
+        _ => Request::Malformed(43),
+    }
+}
+
+// What a unit of `size` bytes with function 17 asks.
+fn numbering(size: usize) -> Request
+    ensures { λ r. ⌜ r ≡ numbering size ⌝ }
+{
+    if size == 1 {
+        return Request::Serial;
+    }
+    Request::Malformed(17)
+}
+
+// What the data unit `unit` asks by one of the four functions: its function, label and numbers, or that it is malformed; any other function is unknown.
+pub fn asked_of(unit: &[u8]) -> Request
+    ensures { λ r. ⌜ r ≡ askedOf (now (unit .entry)) ⌝ }
 {
     let function = byte_at(unit, 0);
     let register = word_at(unit, 1);
     let number = word_at(unit, 3);
     asked(unit.len(), function, register, number, byte_at(unit, 5))
+}
+
+// What the data unit `unit` asks: by 43, by 17, or by the four functions.
+pub fn request_of(unit: &[u8]) -> Request
+    ensures { λ r. ⌜ r ≡ requestOf (now (unit .entry)) ⌝ }
+{
+    match byte_at(unit, 0) {
+        43 => identifying(
+            unit.len(),
+            byte_at(unit, 1),
+            byte_at(unit, 2),
+            byte_at(unit, 3),
+        ),
+        17 => numbering(unit.len()),
+        _ => asked_of(unit),
+    }
 }

@@ -1,4 +1,4 @@
--- What a unit's answer can be: only a read tells, only a write is written, and a reply comes from our own address. Assumes nothing.
+-- What a unit's answer can be: only a read tells, only a write is written, only 43 and 17 are told the identity, and a reply comes from our own address. Assumes nothing.
 use mathlib.Core.Path.{_≡_, sym, subst, _∙_}
 use mathlib.Core.Logic.{_⊎_, inl, inr}
 use mathlib.Core.Bool.{Bool, true, false, not, true≢false}
@@ -12,6 +12,7 @@ use Rattle.base.specs.Choice.{pick, both, either}
 use Rattle.base.proofs.Tests.{pick-both, both-out, either-out}
 use Rattle.table.specs.Find.{rowOfSpan}
 use Rattle.table.specs.declared.labels.Register.{Register}
+use Rattle.identity.specs.Identity.{objectsAsked}
 use Rattle.port.specs.Port.{Numbers}
 use Rattle.drive.specs.Plant.{Plant, station}
 use Rattle.answers.specs.declared.Answer.{Answer}
@@ -21,23 +22,26 @@ use Rattle.permit.specs.declared.Permit.the-variants as Permits
 use Rattle.service.specs.Write.{written}
 use Rattle.service.specs.Serving.{isNone, theRow, permitted, toldServed, wroteServed}
 use Rattle.modbus_words.specs.Words.{wordAt, longAt}
-use Rattle.modbus.specs.Request.{between, reads, writes, asked, requestOf}
+use Rattle.modbus.specs.Request.{between, reads, writes, asked, askedOf, requestOf}
 use Rattle.modbus.specs.declared.requests.Span.{Span}
 use Rattle.modbus.specs.declared.requests.Request.{Request}
-use Rattle.modbus.specs.declared.requests.Request.the-variants.{Read, One, Many, Malformed, Unknown}
+use Rattle.modbus.specs.declared.requests.Request.the-variants.{Read, One, Many, Identify, Serial, Malformed, Unknown}
 use Rattle.modbus.specs.declared.replies.Answer as Units
-use Rattle.modbus_service.specs.Serve.{toAll, reachesUs, asksRead, taskOf, done, served}
+use Rattle.modbus.proofs.Laws.{request-all}
+use Rattle.modbus_service.specs.Serve.{toAll, reachesUs, asksRead, noObject, taskOf, done, served}
 use Rattle.modbus_service.specs.Reply.{headOf, answered, repliedBy, replied, exchanged}
 use Rattle.modbus_service.specs.declared.Reply.{Reply}
 use Rattle.modbus_service.specs.declared.Reply.the-variants.{Nothing, Data}
 use Rattle.modbus_service.specs.declared.Task.{Task}
-use Rattle.modbus_service.specs.declared.Task.the-variants.{Refuse}
+use Rattle.modbus_service.specs.declared.Task.the-variants.{Say}
 
 -- ---- a request has the numbers of its function
 abbrev pub Made : Request → Type 0
 Made (Read function first count) = (3 ≤ function) × (function ≤ 4)
 Made (One register word) = Unit {0}
 Made (Many first count place) = (1 ≤ count) × (count ≤ 123)
+Made (Identify code object) = Unit {0}
+Made Serial = Unit {0}
 Made (Malformed function) = Unit {0}
 Made (Unknown function) = Unit {0}
 
@@ -60,21 +64,32 @@ asked-made n f a k m =
     (λ _. pick-both Made (eqb f 16) (λ _. pick-both Made (writes n k m) (λ e. counted n k m e) (λ _. tt)) (λ _. tt)))
 
 pub made : (u : List ℕ) → Made (requestOf u)
-unfolding requestOf
-made u = asked-made (length u) (getD u 0 0) (wordAt u 1) (wordAt u 3) (getD u 5 0)
+unfolding askedOf
+made u = request-all Made u tt tt tt tt tt (asked-made (length u) (getD u 0 0) (wordAt u 1) (wordAt u 3) (getD u 5 0))
 
--- ---- only a read tells, and only a write is written
+-- ---- only a read tells, only a write is written, and only 43 and 17 are told the identity
 abbrev pub Fits : Request → Answer → Type 0
 Fits (Read function first count) (Answers.Written change) = ⊥
 Fits (Read function first count) (Answers.Told row word) = Unit {0}
+Fits (Read function first count) (Answers.Identified part) = ⊥
 Fits (One register word) (Answers.Told row w) = ⊥
 Fits (One register word) (Answers.Written change) = Unit {0}
+Fits (One register word) (Answers.Identified part) = ⊥
 Fits (Many first count place) (Answers.Told row w) = ⊥
 Fits (Many first count place) (Answers.Written change) = Unit {0}
+Fits (Many first count place) (Answers.Identified part) = ⊥
+Fits (Identify code object) (Answers.Told row w) = ⊥
+Fits (Identify code object) (Answers.Written change) = ⊥
+Fits (Identify code object) (Answers.Identified part) = Unit {0}
+Fits Serial (Answers.Told row w) = ⊥
+Fits Serial (Answers.Written change) = ⊥
+Fits Serial (Answers.Identified part) = Unit {0}
 Fits (Malformed function) (Answers.Told row w) = ⊥
 Fits (Malformed function) (Answers.Written change) = ⊥
+Fits (Malformed function) (Answers.Identified part) = ⊥
 Fits (Unknown function) (Answers.Told row w) = ⊥
 Fits (Unknown function) (Answers.Written change) = ⊥
+Fits (Unknown function) (Answers.Identified part) = ⊥
 Fits request Answers.NotOurs = Unit {0}
 Fits request (Answers.Refused refusal) = Unit {0}
 
@@ -102,6 +117,10 @@ module _ (p : Plant) (q : Numbers) (a : ℕ) (u : List ℕ) where
   fits (Many r n s) =
       pick-both (Does (Many r n s)) (not (reachesUs (station p) a)) (λ _. tt)
       (λ _. pick-both (Does (Many r n s)) (both (toAll a) false) (λ _. tt) (λ _. pick-both (Does (Many r n s)) (isNone (rowOfSpan (r .0) n)) (λ _. tt) (λ _. many-fits r n s (written p (theRow (rowOfSpan (r .0) n) .0) (longAt u (s .from)) .permit))))
+  fits (Identify code object) =
+      pick-both (Does (Identify code object)) (not (reachesUs (station p) a)) (λ _. tt)
+      (λ _. pick-both (Does (Identify code object)) (both (toAll a) true) (λ _. tt) (λ _. pick-both (Does (Identify code object)) (both (noObject (objectsAsked code object)) true) (λ _. tt) (λ _. tt)))
+  fits Serial = pick-both (Does Serial) (not (reachesUs (station p) a)) (λ _. tt) (λ _. pick-both (Does Serial) (both (toAll a) true) (λ _. tt) (λ _. tt))
   fits (Malformed f) =
       pick-both (Does (Malformed f)) (not (reachesUs (station p) a)) (λ _. tt) (λ _. pick-both (Does (Malformed f)) (both (toAll a) (asksRead (Malformed f))) (λ _. tt) (λ _. tt))
   fits (Unknown f) = pick-both (Does (Unknown f)) (not (reachesUs (station p) a)) (λ _. tt) (λ _. tt)
@@ -133,7 +152,7 @@ module _ (p : Plant) (q : Numbers) (a : ℕ) (u : List ℕ) where
   pick-from : (t : Bool) (x y : Task) → TaskFrom x → (t ≡ false → a ≡ station p) → TaskFrom (pick t x y)
   pick-from t x y d g = pick-both TaskFrom t (λ _. d) (λ e. any-from (g e) (answered (headOf (requestOf u)) (done p q y .answer)))
 
-  refused-from : TaskFrom (Refuse Answers.NotOurs)
+  refused-from : TaskFrom (Say Answers.NotOurs)
   unfolding done
   refused-from = tt
 

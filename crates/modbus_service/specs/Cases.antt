@@ -6,6 +6,8 @@ use Rattle.table.specs.Table.{rows, lineAt, startWords}
 use Rattle.table.specs.Address.{address, firstRegister}
 use Rattle.table.specs.Find.{firstRow, rowOfSpan}
 use Rattle.allowed.specs.Allowed.{twos, within, allows, allowedAt}
+use Rattle.identity.specs.Identity.{upTo, objectsAsked}
+use Rattle.identity.specs.declared.Part.the-variants.{Objects, Serial}
 use Rattle.drive.specs.Plant.{Plant, flags, started}
 use Rattle.drive.specs.Flags.{flagged, lowestFrom, lowestOf}
 use Rattle.drive.specs.Faults.{flagStands, statusOf, flagRaised, acknowledged}
@@ -17,8 +19,8 @@ use Rattle.permit.specs.Permit.{permitOf}
 use Rattle.service.specs.Write.{followed, applied, written}
 use Rattle.service.specs.Serving.{toldServed, wroteServed}
 use Rattle.modbus_words.specs.Words.{wordAt, longAt}
-use Rattle.modbus.specs.Request.{label, reads, writes, asked, requestOf}
-use Rattle.modbus.specs.declared.replies.Answer.the-variants.{Word, Long, Echo, Exception}
+use Rattle.modbus.specs.Request.{label, reads, writes, asked, identifying, numbering, askedOf, requestOf}
+use Rattle.modbus.specs.declared.replies.Answer.the-variants.{Word, Long, Echo, Identity, Exception}
 use Rattle.modbus_service.specs.Serve.{reachesUs, taskOf, done, served}
 use Rattle.modbus_service.specs.Reply.{Exchanged, registersTold, repliedBy, replied, exchanged}
 use Rattle.modbus_service.specs.declared.Reply.{Reply}
@@ -61,11 +63,34 @@ cases =
     ∷ ((started, 1, 0x03 ∷ 0x02 ∷ 0x94 ∷ 0x00 ∷ []), (8, 0, Data (Exception 0x03 3)))
     ∷ ((started, 0, 0x03 ∷ 0x02 ∷ 0x94 ∷ 0x00 ∷ []), (1, 0, Nothing))
     ∷ ((started, 1, 0xAB ∷ []), (9, 0, Data (Exception 0xAB 1)))
-    ∷ ((started, 0, 0x2B ∷ []), (9, 0, Nothing))
+    ∷ ((started, 0, 0x2C ∷ []), (9, 0, Nothing))
     -- another address
-    ∷ ((started, 2, 0x2B ∷ []), (1, 0, Nothing))
+    ∷ ((started, 2, 0x2C ∷ []), (1, 0, Nothing))
+    -- 43, type 14: code 01 from object 00h; code 02 from 05h; from 07h, which lies outside; code 04 of 04h, and of 07h. Nothing is acknowledged
+    ∷ ((over, 1, 0x2B ∷ 0x0E ∷ 0x01 ∷ 0x00 ∷ []), (0, 0x20, Data (Identity (Objects 1 0 2))))
+    ∷ ((started, 1, 0x2B ∷ 0x0E ∷ 0x02 ∷ 0x05 ∷ []), (0, 0, Data (Identity (Objects 2 5 6))))
+    ∷ ((started, 1, 0x2B ∷ 0x0E ∷ 0x02 ∷ 0x07 ∷ []), (0, 0, Data (Identity (Objects 2 0 6))))
+    ∷ ((started, 1, 0x2B ∷ 0x0E ∷ 0x04 ∷ 0x04 ∷ []), (0, 0, Data (Identity (Objects 4 4 4))))
+    ∷ ((started, 1, 0x2B ∷ 0x0E ∷ 0x04 ∷ 0x07 ∷ []), (2, 0, Data (Exception 0x2B 2)))
+    -- code 03; a byte more; no type byte; type 13, also where the length is wrong
+    ∷ ((started, 1, 0x2B ∷ 0x0E ∷ 0x03 ∷ 0x00 ∷ []), (8, 0, Data (Exception 0x2B 3)))
+    ∷ ((started, 1, 0x2B ∷ 0x0E ∷ 0x01 ∷ 0x00 ∷ 0x00 ∷ []), (8, 0, Data (Exception 0x2B 3)))
+    ∷ ((started, 1, 0x2B ∷ []), (8, 0, Data (Exception 0x2B 3)))
+    ∷ ((started, 1, 0x2B ∷ 0x0D ∷ 0x01 ∷ 0x00 ∷ []), (9, 0, Data (Exception 0x2B 1)))
+    ∷ ((started, 1, 0x2B ∷ 0x0D ∷ []), (9, 0, Data (Exception 0x2B 1)))
+    -- 17, and with a byte more
+    ∷ ((started, 1, 0x11 ∷ []), (0, 0, Data (Identity Serial)))
+    ∷ ((started, 1, 0x11 ∷ 0x00 ∷ []), (8, 0, Data (Exception 0x11 3)))
+    -- to all: 1, also where they would be refused; but type 13 is 9
+    ∷ ((started, 0, 0x2B ∷ 0x0E ∷ 0x01 ∷ 0x00 ∷ []), (1, 0, Nothing))
+    ∷ ((started, 0, 0x2B ∷ 0x0E ∷ 0x04 ∷ 0x07 ∷ []), (1, 0, Nothing))
+    ∷ ((started, 0, 0x2B ∷ 0x0E ∷ 0x03 ∷ 0x00 ∷ []), (1, 0, Nothing))
+    ∷ ((started, 0, 0x2B ∷ []), (1, 0, Nothing))
+    ∷ ((started, 0, 0x11 ∷ []), (1, 0, Nothing))
+    ∷ ((started, 0, 0x11 ∷ 0x00 ∷ []), (1, 0, Nothing))
+    ∷ ((started, 0, 0x2B ∷ 0x0D ∷ 0x01 ∷ 0x00 ∷ []), (9, 0, Nothing))
     ∷ []
 
 pub cases-hold : map (λ (c : (Plant × ℕ × List ℕ) × Result). result (exchanged (c .0 .0) (0 ∷ 0 ∷ 0 ∷ []) (c .0 .1) (c .0 .2))) cases ≡ map (λ (c : (Plant × ℕ × List ℕ) × Result). c .1) cases
-unfolding rows lineAt startWords address firstRegister firstRow rowOfSpan twos within allows allowedAt started flagged lowestFrom lowestOf flagStands statusOf flagRaised acknowledged isFault raised ended Reading.stored Reading.told readOnly boundsOf allowed initRunning permitted permitOf followed applied written toldServed wroteServed wordAt longAt reads writes asked requestOf reachesUs taskOf done served registersTold repliedBy replied exchanged
+unfolding rows lineAt startWords address firstRegister firstRow rowOfSpan twos within allows allowedAt started flagged lowestFrom lowestOf flagStands statusOf flagRaised acknowledged isFault raised ended Reading.stored Reading.told readOnly boundsOf allowed initRunning permitted permitOf followed applied written toldServed wroteServed wordAt longAt reads writes asked identifying numbering askedOf requestOf upTo objectsAsked reachesUs taskOf done served registersTold repliedBy replied exchanged
 cases-hold = refl

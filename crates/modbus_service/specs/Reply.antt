@@ -6,19 +6,20 @@ use Rattle.base.specs.Choice.{pick}
 use Rattle.table.specs.Table.{lineAt}
 use Rattle.table.specs.declared.labels.Row.{Row}
 use Rattle.table.specs.declared.labels.Register.{Register}
+use Rattle.identity.specs.Identity as Identities
 use Rattle.port.specs.Port.{Numbers}
 use Rattle.drive.specs.Plant.{Plant}
 use Rattle.answers.specs.declared.Answer.{Answer}
-use Rattle.answers.specs.declared.Answer.the-variants.{Told, Written, NotOurs, Refused}
+use Rattle.answers.specs.declared.Answer.the-variants.{Told, Written, Identified, NotOurs, Refused}
 use Rattle.answers.specs.declared.Refusal.{Refusal}
 use Rattle.answers.specs.declared.Refusal.the-variants as Refusals
 use Rattle.service.specs.Serving.{Served}
 use Rattle.modbus.specs.Answer.{unitOf}
 use Rattle.modbus.specs.Request.{label, requestOf}
 use Rattle.modbus.specs.declared.requests.Request.{Request}
-use Rattle.modbus.specs.declared.requests.Request.the-variants.{Read, One, Many, Malformed, Unknown}
+use Rattle.modbus.specs.declared.requests.Request.the-variants.{Read, One, Many, Identify, Serial, Malformed, Unknown}
 use Rattle.modbus.specs.declared.replies.Answer as Units
-use Rattle.modbus.specs.declared.replies.Answer.the-variants.{Word, Long, Echo, Exception}
+use Rattle.modbus.specs.declared.replies.Answer.the-variants.{Word, Long, Echo, Identity, Exception}
 use Rattle.modbus_service.specs.Serve.{toAll, served}
 use Rattle.modbus_service.specs.declared.Head.{Head}
 use Rattle.modbus_service.specs.declared.Reply.{Reply}
@@ -48,13 +49,16 @@ abbrev pub headOf : Request → Head
 headOf (Read function first count) = head function first count
 headOf (One register word) = head 6 register word
 headOf (Many first count place) = head 16 first count
+headOf (Identify code object) = head 43 (label 0) 0
+headOf Serial = head 17 (label 0) 0
 headOf (Malformed function) = head function (label 0) 0
 headOf (Unknown function) = head function (label 0) 0
 
--- "0: done .. normal": 06 and 16 are answered by their register, and their word or count (MB); "1: .. none"; 2 to 9 by an exception
+-- "0: done .. normal": 06 and 16 are answered by their register, and their word or count (MB), 43 and 17 by the part of the identity; "1: .. none"; 2 to 9 by an exception
 abbrev pub answered : Head → Answer → Reply
 answered h (Told row word) = Data (registersTold (h .function) row word)
 answered h (Written change) = Data (Echo (h .function) (h .register) (h .number))
+answered h (Identified part) = Data (Identity part)
 answered h NotOurs = Nothing
 answered h (Refused refusal) = Data (Exception (h .function) (exceptionOf refusal))
 
@@ -77,7 +81,7 @@ exchangedIn p q e = record { served = record { plant = p; port = q; answer = e .
 unfoldable pub exchanged : Plant → Numbers → (address : ℕ) → List ℕ → Exchanged
 exchanged p q address unit = record { served = served p q address unit; reply = replied address unit (served p q address unit .answer) }
 
--- the reply's message, as its line makes messages of an address and a data unit; none where nothing is replied
-abbrev pub sentBy : (ℕ → List ℕ → List ℕ) → ℕ → Reply → List ℕ
-sentBy made address Nothing = []
-sentBy made address (Data answer) = made address (unitOf answer)
+-- the reply's message, as its line makes messages of an address and a data unit, from the card whose identity this is; none where nothing is replied
+abbrev pub sentBy : (ℕ → List ℕ → List ℕ) → Identities.Identity → ℕ → Reply → List ℕ
+sentBy made i address Nothing = []
+sentBy made i address (Data answer) = made address (unitOf i answer)

@@ -5,6 +5,8 @@ use answers::Answer;
 use answers::Refusal;
 use drive::Plant;
 use drive::STATION;
+use identity::Named;
+use identity::Part;
 use modbus::Request;
 use port::Numbers;
 use table::Found;
@@ -12,14 +14,14 @@ use table::Register;
 use table::Row;
 ghost use mathlib.Core.Path.{_≡_};
 ghost use Rattle.base.specs.Choice.{both};
-ghost use Rattle.modbus_service.specs.Serve.{toAll, reachesUs, reading, taskOf, done};
+ghost use Rattle.modbus_service.specs.Serve.{toAll, reachesUs, reading, partTask, taskOf, done};
 ghost use Rattle.modbus_service.specs.Reply.{headOf, exceptionOf, registersTold, repliedBy, exchangedIn, exchanged};
 
-// What a unit asks of the plant: a row is to tell its word, or to hold a value; or nothing, for this reason.
+// What a unit asks of the plant: a row is to tell its word, or to hold a value; or nothing, and this is to be said.
 enum Task {
     Tell(Row),
     Write(Row, u32),
-    Refuse(Answer),
+    Say(Answer),
 }
 
 // What a reply repeats of its request: the function, the register, and the word of a 06 or the count.
@@ -41,7 +43,7 @@ pub struct Exchange {
     pub reply: Reply,
 }
 
-// Serves a data unit that came behind an address: 03 and 04 tell a row, 06 and 16 write one. A refusal changes nothing.
+// Serves a data unit that came behind an address: 03 and 04 tell a row, 06 and 16 write one, 43 and 17 tell the identity. A refusal changes nothing.
 pub fn serve(plant: &mut Plant, port: &mut Numbers, address: u8, unit: &[u8]) -> Exchange
     ensures { λ r. ⌜ exchangedIn (now (plant .exit)) (now (port .exit)) r ≡ exchanged (now (plant .entry)) (now (port .entry)) address (now (unit .entry)) ⌝ }
 {
@@ -67,61 +69,92 @@ fn task_of(station: u32, address: u8, request: Request, unit: &[u8]) -> Task
     ensures { λ r. ⌜ r ≡ taskOf station address request (now (unit .entry)) ⌝ }
 {
     if !reaches_us(station, address) {
-        return Task::Refuse(Answer::NotOurs);
+        return Task::Say(Answer::NotOurs);
     }
     match request {
         Request::Read(_, first, count) => {
             if address == 0 {
-                return Task::Refuse(Answer::NotOurs);
+                return Task::Say(Answer::NotOurs);
             }
             let Found::At(row) = first.span(count) else {
-                return Task::Refuse(Answer::Refused(Refusal::NoRow));
+                return Task::Say(Answer::Refused(Refusal::NoRow));
             };
             Task::Tell(row)
         }
         Request::One(register, word) => {
             let Found::At(row) = register.span(1) else {
-                return Task::Refuse(Answer::Refused(Refusal::NoRow));
+                return Task::Say(Answer::Refused(Refusal::NoRow));
             };
             Task::Write(row, word as u32)
         }
         Request::Many(first, count, place) => {
             let Found::At(row) = first.span(count) else {
-                return Task::Refuse(Answer::Refused(Refusal::NoRow));
+                return Task::Say(Answer::Refused(Refusal::NoRow));
             };
             Task::Write(row, modbus_words::long_at(unit, place.from))
         }
+        Request::Identify(code, object) => part_task(
+            address,
+            identity::objects_asked(code, object),
+        ),
+        Request::Serial => part_task(address, Named::Part(Part::Serial)),
         Request::Malformed(function) => {
             if broadcast_read(address, function) {
-                return Task::Refuse(Answer::NotOurs);
+                return Task::Say(Answer::NotOurs);
             }
-            Task::Refuse(Answer::Refused(Refusal::Malformed))
+            Task::Say(Answer::Refused(Refusal::Malformed))
         }
-        Request::Unknown(_) => Task::Refuse(Answer::Refused(Refusal::NoFunction)),
+        Request::Unknown(_) => Task::Say(Answer::Refused(Refusal::NoFunction)),
     }
 }
 
-// Whether a 03 or 04 came to all.
+// A part of the identity is said to one master, and not to all. An object that there is not is refusal 2.
+fn part_task(address: u8, named: Named) -> Task
+    ensures { λ r. ⌜ r ≡ partTask address named ⌝ }
+{
+    if address == 0 {
+        return Task::Say(Answer::NotOurs);
+    }
+    let Named::Part(part) = named else {
+        return Task::Say(Answer::Refused(Refusal::NoRow));
+    };
+    Task::Say(Answer::Identified(part))
+}
+
+// Whether a function is a read: 03, 04, 17 or 43.
+fn is_read(function: u8) -> bool
+    ensures { λ r. ⌜ r ≡ reading function ⌝ }
+{
+    if function == 3 {
+        return true;
+    }
+    if function == 4 {
+        return true;
+    }
+    if function == 17 {
+        return true;
+    }
+    function == 43
+}
+
+// Whether a read came to all.
 fn broadcast_read(address: u8, function: u8) -> bool
     ensures { λ r. ⌜ r ≡ both (toAll address) (reading function) ⌝ }
 {
     if address != 0 {
         return false;
     }
-    if function == 3 {
-        return true;
-    }
-    function == 4
+    is_read(function)
 }
 
-// The row is told or written, with refusals 3 to 7; or nothing changes.
+// The row is told or written, with refusals 3 to 7; or nothing changes, and this is said.
 fn do_task(plant: &mut Plant, port: &mut Numbers, task: Task) -> Answer
     ensures { λ r. ⌜ record { plant = now (plant .exit); port = now (port .exit); answer = r } ≡ done (now (plant .entry)) (now (port .entry)) task ⌝ }
 {
     match task {
         Task::Tell(row) => service::tell(plant, port, row),
         Task::Write(row, value) => service::write(plant, row, value),
-        Task::Refuse(answer) => answer,
+        Task::Say(answer) => answer,
     }
 }
 
@@ -144,6 +177,16 @@ fn head_of(request: Request) -> Head
             function: 16,
             register,
             number,
+        },
+        Request::Identify(_, _) => Head {
+            function: 43,
+            register: Register(0),
+            number: 0,
+        },
+        Request::Serial => Head {
+            function: 17,
+            register: Register(0),
+            number: 0,
         },
         Request::Malformed(function) => Head {
             function,
@@ -171,6 +214,7 @@ fn reply_to(address: u8, head: Head, answer: Answer) -> Reply
             let register = head.register;
             Reply::Data(modbus::Answer::Echo(head.function, register, head.number))
         }
+        Answer::Identified(part) => Reply::Data(modbus::Answer::Identity(part)),
         Answer::NotOurs => Reply::Nothing,
         Answer::Refused(refusal) => Reply::Data(modbus::Answer::Exception(
             head.function,

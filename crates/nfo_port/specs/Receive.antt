@@ -1,6 +1,7 @@
 -- A call on bytes of NFO serial: the stream call of its messages. Assumes nothing.
 use mathlib.Core.List.{List}
 use Prim.Native.Nat.{ℕ}
+use Rattle.base.specs.Buffers.{nfoLeast}
 use Rattle.nfo_parts.specs.declared.message.Message.{Message}
 use Rattle.nfo_parts.specs.Parts.{messageOf}
 use Rattle.nfo.specs.Scan.{feeding}
@@ -19,6 +20,7 @@ servedBy c message = Serve.served (c .plant) (c .port .numbers) message
 abbrev pub nfoStream : Stream
 nfoStream =
     record {
+      least = nfoLeast;
       feeding = feeding;
       served = λ c held. servedBy c (messageOf (held .bytes));
       reply = λ c held. replied (messageOf (held .bytes)) (servedBy c (messageOf (held .bytes)) .answer);

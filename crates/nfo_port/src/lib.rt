@@ -1,5 +1,6 @@
-// NFO serial on the card's port: `receive` reads a scrap, serves the first message taken and replies to it. The card's parts are lent where they lie.
-use base::REPLY_LEAST;
+// NFO serial on the card's port: `receive` reads a scrap, serves the first message taken and replies to it. The card's parts are lent where they lie;
+// its identity is none of them, for no message of NFO serial asks for it.
+use base::NFO_REPLY;
 use card::Outcome;
 use drive::Plant;
 use pending::Scanned;
@@ -11,7 +12,8 @@ use turn::short_buffer;
 ghost use mathlib.Core.Path.{_≡_};
 ghost use Prim.Native.Nat.{_≤_};
 ghost use lib.ListN.{length};
-ghost use Rattle.base.specs.Buffers.{front, replyLeast};
+ghost use Rattle.base.specs.Buffers.{front, nfoLeast};
+ghost use Rattle.identity.specs.Identity.{Identity};
 ghost use Rattle.pending.specs.Scanning.{scanIn};
 ghost use Rattle.turn.specs.Turn.{turnOf};
 ghost use Rattle.card.specs.State.{cardOf};
@@ -29,10 +31,10 @@ pub fn receive(
     bytes: &[u8],
     reply: &mut [u8],
 ) -> Turned
-    ensures turn { λ r. ⌜ turnIn (now (held .exit)) (now (port .exit)) (now (plant .exit)) r ≡ turnOf (nfoReceived (cardOf (now (held .entry)) len (now (port .entry)) (now (plant .entry))) (now (bytes .entry)) (length (now (reply .entry)))) ⌝ }
-    ensures lent { λ _. ⌜ now (reply .exit) ≡ front (nfoReceived (cardOf (now (held .entry)) len (now (port .entry)) (now (plant .entry))) (now (bytes .entry)) (length (now (reply .entry))) .reply) (now (reply .entry)) ⌝ }
+    ensures turn { λ r. ⌜ ((i : Identity) → turnIn (now (held .exit)) (now (port .exit)) (now (plant .exit)) i r ≡ turnOf (nfoReceived (cardOf (now (held .entry)) len (now (port .entry)) (now (plant .entry)) i) (now (bytes .entry)) (length (now (reply .entry))))) ⌝ }
+    ensures lent { λ _. ⌜ ((i : Identity) → now (reply .exit) ≡ front (nfoReceived (cardOf (now (held .entry)) len (now (port .entry)) (now (plant .entry)) i) (now (bytes .entry)) (length (now (reply .entry))) .reply) (now (reply .entry))) ⌝ }
 {
-    if reply.len() < REPLY_LEAST {
+    if reply.len() < NFO_REPLY {
         return short_buffer(len);
     }
     let scan = nfo::scan(held, len, bytes);
@@ -50,9 +52,9 @@ fn take(
     scan: Scanned,
     reply: &mut [u8],
 ) -> Turned
-    requires { ⌜ replyLeast ≤ length (now reply) ⌝ }
-    ensures turn { λ r. ⌜ turnIn (now (held .entry)) (now (port .exit)) (now (plant .exit)) r ≡ turnOf (taken nfoStream (cardOf (now (held .entry)) (scan .len) (now (port .entry)) (now (plant .entry))) (scanIn (now (held .entry)) scan)) ⌝ }
-    ensures lent { λ _. ⌜ now (reply .exit) ≡ front (taken nfoStream (cardOf (now (held .entry)) (scan .len) (now (port .entry)) (now (plant .entry))) (scanIn (now (held .entry)) scan) .reply) (now (reply .entry)) ⌝ }
+    requires { ⌜ nfoLeast ≤ length (now reply) ⌝ }
+    ensures turn { λ r. ⌜ ((i : Identity) → turnIn (now (held .entry)) (now (port .exit)) (now (plant .exit)) i r ≡ turnOf (taken nfoStream (cardOf (now (held .entry)) (scan .len) (now (port .entry)) (now (plant .entry)) i) (scanIn (now (held .entry)) scan))) ⌝ }
+    ensures lent { λ _. ⌜ ((i : Identity) → now (reply .exit) ≡ front (taken nfoStream (cardOf (now (held .entry)) (scan .len) (now (port .entry)) (now (plant .entry)) i) (scanIn (now (held .entry)) scan) .reply) (now (reply .entry))) ⌝ }
 {
     let message = nfo_parts::read_message(held);
     let answer = nfo_service::serve(plant, port, message);

@@ -9,7 +9,7 @@ use Rattle.nfo_parts.specs.declared.message.Message.the-variants.{Enquiry, Sele
 use Rattle.nfo_parts.specs.declared.message.Parameter.{Parameter}
 use Rattle.nfo_parts.specs.declared.message.Parameter.the-variants.{Number, NoNumber}
 use Rattle.answers.specs.declared.Answer.{Answer}
-use Rattle.answers.specs.declared.Answer.the-variants.{Told, Written, NotOurs, Refused}
+use Rattle.answers.specs.declared.Answer.the-variants.{Told, Written, Identified, NotOurs, Refused}
 use Rattle.nfo_service.specs.Serve.{adrOf}
 
 -- ADR and the parameter that a message names
@@ -26,10 +26,11 @@ abbrev pub eNumberIn : Parameter → ℕ
 eNumberIn (Number e) = e .0
 eNumberIn NoNumber = 0
 
--- the column NFO. "The reply repeats the request's ADR"
+-- the column NFO. "The reply repeats the request's ADR". No message of NFO serial asks for the identity
 unfoldable pub repliedBy : ℕ → ℕ → Answer → List ℕ
 repliedBy adr e (Told row word) = replyOf adr e (word % 0x10000)
 repliedBy adr e (Written change) = ackOf adr
+repliedBy adr e (Identified part) = []
 repliedBy adr e NotOurs = []
 repliedBy adr e (Refused refusal) = nakOf adr
 

@@ -196,6 +196,7 @@ fn put(adr: u8, e: ENumber, answer: Answer, out: &mut [u8]) -> usize
     match answer {
         Answer::Told(_, word) => nfo_parts::reply(adr, e, (word % 65536) as u16, out),
         Answer::Written(_) => nfo_parts::ack(adr, out),
+        Answer::Identified(_) => 0,
         Answer::NotOurs => 0,
         Answer::Refused(_) => nfo_parts::nak(adr, out),
     }

@@ -1,12 +1,14 @@
 -- A call by the port's protocol, and what a caller may count on. Assumes nothing.
-use mathlib.Core.Path.{_≡_}
+use mathlib.Core.Path.{_≡_, subst}
+use mathlib.Core.Bool.{Bool, true, false}
 use mathlib.Core.List.{List}
 use Prim.Native.Nat.{ℕ, _≤_, _<_}
 use native.Mathlib.Omega.{arith}
 use borrow.Author.Tests.{ne-eqb}
 use lib.Dec.{eqb}
 use lib.ListN.{length}
-use Rattle.base.specs.Buffers.{replyLeast}
+use Rattle.base.specs.Choice.{pick}
+use Rattle.base.specs.Buffers.{nfoLeast, rtuLeast, asciiLeast, replyLeast}
 use Rattle.base.proofs.Tests.{pick-both}
 use Rattle.card.specs.State.{protocolOf}
 use Rattle.card.specs.declared.state.Card.{Card}
@@ -20,6 +22,7 @@ use Rattle.rtu_port.proofs.Laws.{rtu-used, rtu-uses, rtu-short}
 use Rattle.ascii_port.specs.Receive.{asciiReceived}
 use Rattle.ascii_port.proofs.Laws.{ascii-used, ascii-uses, ascii-short}
 use Rattle.receive.specs.Receive.{received}
+use Rattle.receive.specs.Calls.{LongEnough}
 
 module _ (c : Card) (bytes : List ℕ) (room : ℕ) where
   -- ---- by the number in the port
@@ -40,16 +43,51 @@ module _ (c : Card) (bytes : List ℕ) (room : ℕ) where
   unfolding received
   of-each Q r a n = pick-both Q (eqb (protocolOf c) 1) (λ e. r) (λ e. pick-both Q (eqb (protocolOf c) 2) (λ e. a) (λ e. n))
 
-  -- ---- the bytes used are there, one at least is used where there is one and the buffer is no shorter than 19, and a reply has 19 bytes at most
+  -- ---- the bytes used are there, one at least is used where there is one and the buffer is long enough, and a reply has no more bytes than the least buffer
   pub received-used : received c bytes room .used ≤ length bytes
   received-used = of-each (λ (r : Received). r .used ≤ length bytes) (rtu-used c bytes room) (ascii-used c bytes room) (nfo-used c bytes room)
 
-  pub received-uses : replyLeast ≤ room → 0 < length bytes → 0 < received c bytes room .used
-  received-uses h l = of-each (λ (r : Received). 0 < r .used) (rtu-uses c bytes room h l) (ascii-uses c bytes room h l) (nfo-uses c bytes room h l)
+  pub received-uses : replyLeast (protocolOf c) ≤ room → 0 < length bytes → 0 < received c bytes room .used
+  unfolding received replyLeast
+  received-uses h l = go (eqb (protocolOf c) 1) (eqb (protocolOf c) 2) h
+    where
+      go : (t s : Bool) → pick t rtuLeast (pick s asciiLeast nfoLeast) ≤ room
+          → 0 < pick t (rtuReceived c bytes room) (pick s (asciiReceived c bytes room) (nfoReceived c bytes room)) .used
+      go true s k = rtu-uses c bytes room k l
+      go false true k = ascii-uses c bytes room k l
+      go false false k = nfo-uses c bytes room k l
 
-  pub received-short : length (received c bytes room .reply) ≤ replyLeast
-  received-short =
-      of-each (λ (r : Received). length (r .reply) ≤ replyLeast) (omega (arith, rtu-short c bytes room)) (ascii-short c bytes room) (omega (arith, nfo-short c bytes room))
+  pub received-most : length (received c bytes room .reply) ≤ 151
+  received-most =
+      of-each (λ (r : Received). length (r .reply) ≤ 151) (omega (arith, rtu-short c bytes room)) (ascii-short c bytes room) (omega (arith, nfo-short c bytes room))
+
+  pub received-short : length (received c bytes room .reply) ≤ replyLeast (protocolOf c)
+  unfolding received replyLeast
+  received-short = go (eqb (protocolOf c) 1) (eqb (protocolOf c) 2)
+    where
+      go : (t s : Bool) → length (pick t (rtuReceived c bytes room) (pick s (asciiReceived c bytes room) (nfoReceived c bytes room)) .reply) ≤ pick t rtuLeast (pick s asciiLeast nfoLeast)
+      go true s = omega (arith, rtu-short c bytes room)
+      go false true = omega (arith, ascii-short c bytes room)
+      go false false = omega (arith, nfo-short c bytes room)
+
+-- a buffer that is long enough, by the protocol
+pub enough-nfo : (c : Card) (room : ℕ) → protocolOf c ≡ 0 → LongEnough c room → nfoLeast ≤ room
+unfolding replyLeast
+enough-nfo c room p h = subst (λ (n : ℕ). replyLeast n ≤ room) p h
+
+pub enough-rtu : (c : Card) (room : ℕ) → protocolOf c ≡ 1 → LongEnough c room → rtuLeast ≤ room
+unfolding replyLeast
+enough-rtu c room p h = subst (λ (n : ℕ). replyLeast n ≤ room) p h
+
+pub enough-ascii : (c : Card) (room : ℕ) → protocolOf c ≡ 2 → LongEnough c room → asciiLeast ≤ room
+unfolding replyLeast
+enough-ascii c room p h = subst (λ (n : ℕ). replyLeast n ≤ room) p h
+
+-- no protocol's least buffer is longer than that of Modbus ASCII
+pub least-most : (protocol : ℕ) → replyLeast protocol ≤ asciiLeast
+unfolding replyLeast
+least-most protocol =
+    pick-both (λ (n : ℕ). n ≤ asciiLeast) (eqb protocol 1) (λ _. omega arith) (λ _. pick-both (λ (n : ℕ). n ≤ asciiLeast) (eqb protocol 2) (λ _. omega arith) (λ _. omega arith))
 
 -- the call of a protocol is the call
 pub does : (r : Turn) (out before : List ℕ) (k l : Received) → k ≡ l → Does r out l before → Does r out k before

@@ -1,21 +1,22 @@
 -- What the code's tests and calls show of RTU frames, and that a frame's parts lie within it. Assumes nothing.
 use mathlib.Core.Path.{_≡_, refl, sym, ap, _∙_}
-use mathlib.Core.Bool.{true, false}
+use mathlib.Core.Bool.{true, false, not}
 use mathlib.Core.List.{List, [], _∷_}
 use Prim.Native.Nat.{ℕ, suc, _+_, _-_, _*_, _≤_, _<_}
 use native.Mathlib.Omega.{arith}
 use borrow.Author.Tests.{eqb-true, leb-true}
 use lib.Dec.{leb, eqb}
 use lib.ListN.{length, take, drop, getD, length-drop, drop-of-length-le}
-use Rattle.base.specs.Choice.{either}
+use Rattle.base.specs.Choice.{both, either}
 use Rattle.base.proofs.Tests.{both-out, pick-both}
 use Rattle.checks.specs.Crc.{bodyOf, crcHolds}
 use Rattle.checks.proofs.Laws.{body-length}
 use Rattle.rtu.specs.Rtu.{frameHolds, addressIn, unitIn, partOf, dataOf, registerSpan, registerData}
 use Rattle.modbus_words.specs.Words.{wordAt}
-use Rattle.modbus.specs.Request.{between, span, reads, writes, asked, requestOf}
+use Rattle.modbus.specs.Request.{between, span, reads, writes, asked, askedOf, identifying, numbering, requestOf}
 use Rattle.modbus.specs.declared.requests.Span.{Span}
 use Rattle.modbus.specs.declared.requests.Request.{Request}
+use Rattle.modbus.proofs.Laws.{request-all}
 
 -- ---- the address
 pub address-none : (f : List ℕ) → length f < 1 → 0 ≡ addressIn f
@@ -38,9 +39,30 @@ pub span-broken : (f : List ℕ) → frameHolds f ≡ false → span 0 0 ≡ reg
 unfolding registerSpan
 span-broken f h = rw h
 
-pub span-held : (f u : List ℕ) (q : Request) (s : Span) → frameHolds f ≡ true → u ≡ unitIn f → q ≡ requestOf u → s ≡ dataOf q → s ≡ registerSpan f
+-- 43 and 17 have none, so that the four functions need not be told from them
+abbrev NoData : Request → Type 0
+NoData q = dataOf q ≡ span 0 0
+
+same-data : (u : List ℕ) → dataOf (askedOf u) ≡ dataOf (requestOf u)
+unfolding askedOf asked requestOf identifying numbering
+same-data u =
+    pick-both (λ (q : Request). dataOf (askedOf u) ≡ dataOf q) (eqb f 43)
+    (λ e. other 43 (eqb-true f 43 e) refl
+    ∙ sym (pick-both NoData (both (leb 2 (length u)) (not (eqb (getD u 1 0) 14))) (λ _. refl)
+    (λ _. pick-both NoData (both (eqb (length u) 4) (either (eqb (getD u 2 0) 1) (either (eqb (getD u 2 0) 2) (eqb (getD u 2 0) 4)))) (λ _. refl) (λ _. refl))))
+    (λ _. pick-both (λ (q : Request). dataOf (askedOf u) ≡ dataOf q) (eqb f 17)
+    (λ e. other 17 (eqb-true f 17 e) refl ∙ sym (pick-both NoData (eqb (length u) 1) (λ _. refl) (λ _. refl)))
+    (λ _. refl))
+  where
+    f : ℕ
+    f = getD u 0 0
+
+    other : (k : ℕ) → f ≡ k → NoData (asked (length u) k (wordAt u 1) (wordAt u 3) (getD u 5 0)) → NoData (askedOf u)
+    other k e none = ap (λ (g : ℕ). dataOf (asked (length u) g (wordAt u 1) (wordAt u 3) (getD u 5 0))) e ∙ none
+
+pub span-held : (f u : List ℕ) (q : Request) (s : Span) → frameHolds f ≡ true → u ≡ unitIn f → q ≡ askedOf u → s ≡ dataOf q → s ≡ registerSpan f
 unfolding registerSpan
-span-held f u q s h i j k = rw h (k ∙ ap dataOf (j ∙ ap requestOf i))
+span-held f u q s h i j k = rw h (k ∙ ap dataOf (j ∙ ap askedOf i) ∙ same-data (unitIn f))
 
 -- ---- it lies within the frame
 abbrev pub Within : ℕ → Span → Type 0
@@ -67,8 +89,10 @@ module _ (n : ℕ) where
       (λ _. none-within)))
 
 request-within : (u : List ℕ) → DataWithin (length u) (requestOf u)
-unfolding requestOf
-request-within u = asked-within (length u) (getD u 0 0) (wordAt u 1) (wordAt u 3) (getD u 5 0)
+unfolding askedOf
+request-within u =
+    let none : Within (length u + 3) (span 0 0) = none-within (length u) in
+    request-all (DataWithin (length u)) u none none none none none (asked-within (length u) (getD u 0 0) (wordAt u 1) (wordAt u 3) (getD u 5 0))
 
 pub unit-length : (f : List ℕ) → length (unitIn f) ≡ length f - 3
 unfolding unitIn

@@ -8,7 +8,7 @@ use Rattle.checks.specs.Crc.{bodyOf, crcBytes, crcHolds}
 use Rattle.modbus.specs.Request.{between, span, requestOf}
 use Rattle.modbus.specs.declared.requests.Span.{Span}
 use Rattle.modbus.specs.declared.requests.Request.{Request}
-use Rattle.modbus.specs.declared.requests.Request.the-variants.{Read, One, Many, Malformed, Unknown}
+use Rattle.modbus.specs.declared.requests.Request.the-variants.{Read, One, Many, Identify, Serial, Malformed, Unknown}
 
 -- the length and the CRC are right; else it is outcome 11
 unfoldable pub frameHolds : List ℕ → Bool
@@ -34,6 +34,8 @@ abbrev pub dataOf : Request → Span
 dataOf (Read function first count) = span 0 0
 dataOf (One register word) = span 4 6
 dataOf (Many first count place) = span 7 (7 + 2 * count)
+dataOf (Identify code object) = span 0 0
+dataOf Serial = span 0 0
 dataOf (Malformed function) = span 0 0
 dataOf (Unknown function) = span 0 0
 

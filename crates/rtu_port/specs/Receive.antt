@@ -4,7 +4,8 @@ use Prim.Native.Nat.{ℕ}
 use lib.Dec.{ltb}
 use lib.ListN.{length}
 use Rattle.base.specs.Choice.{pick}
-use Rattle.base.specs.Buffers.{replyLeast}
+use Rattle.base.specs.Buffers.{rtuLeast}
+use Rattle.identity.specs.Identity.{Identity}
 use Rattle.rtu.specs.Rtu.{frameHolds, addressIn, unitIn, rtuOf}
 use Rattle.modbus_service.specs.Reply.{sentBy, Exchanged, exchanged}
 use Rattle.modbus_service.specs.declared.Reply.{Reply}
@@ -17,8 +18,8 @@ use Rattle.turn.specs.declared.Turned.{Turned}
 abbrev pub exchangeOn : Card → List ℕ → Exchanged
 exchangeOn c frame = exchanged (c .plant) (c .port .numbers) (addressIn frame) (unitIn frame)
 
--- the reply's frame, from the request's address
-abbrev pub frameOf : ℕ → Reply → List ℕ
+-- the reply's frame, from the request's address, of a card with this identity
+abbrev pub frameOf : Identity → ℕ → Reply → List ℕ
 frameOf = sentBy rtuOf
 
 -- "11: RTU length or CRC wrong"
@@ -31,8 +32,8 @@ spoiltIn pending used = record { pending = pending; outcome = Outcomes.BadFrame;
 
 -- length and CRC are right
 abbrev pub taken : Card → List ℕ → Received
-taken c frame = answered (c .port .pending) (length frame) (exchangeOn c frame .served) (frameOf (addressIn frame) (exchangeOn c frame .reply))
+taken c frame = answered (c .identity) (c .port .pending) (length frame) (exchangeOn c frame .served) (frameOf (c .identity) (addressIn frame) (exchangeOn c frame .reply))
 
 -- "Order: 10 first, in every reply call; .. Modbus 11, 1 by address, .."
 unfoldable pub rtuReceived : Card → List ℕ → ℕ → Received
-rtuReceived c frame room = pick (ltb room replyLeast) (tooShort c) (pick (frameHolds frame) (taken c frame) (spoilt c (length frame)))
+rtuReceived c frame room = pick (ltb room rtuLeast) (tooShort c) (pick (frameHolds frame) (taken c frame) (spoilt c (length frame)))

@@ -7,11 +7,12 @@ use borrow.Author.Tests.{lt-ltb, le-ltb}
 use borrow.Rule.Slice.PartMut.{midOf, putMid}
 use lib.ListN.{length, take, set, length-set, length-append, length-take, length-drop}
 use lib.Seq.{sets, length-sets}
-use Rattle.base.specs.Buffers.{front}
+use Rattle.base.specs.Buffers.{front, asciiLeast}
 use Rattle.base.proofs.Sets.{sets-part, sets-append, sets-front, take-front, length-front, front-none}
 use Rattle.hex.specs.Hex.{hexOf}
 use Rattle.hex.proofs.RoundTrip.{length-hex}
 use Rattle.card.specs.Outcome.{outcomeNumber}
+use Rattle.identity.specs.Identity.{Identity}
 use Rattle.port.specs.Port.{Numbers}
 use Rattle.drive.specs.Plant.{Plant}
 use Rattle.card.specs.declared.state.Card.{Card}
@@ -21,7 +22,7 @@ use Rattle.turn.specs.declared.Turn.{Turn}
 use Rattle.turn.specs.declared.Turned.{Turned}
 use Rattle.turn.proofs.Laws.{Does}
 use Rattle.receive.specs.Receive.{received}
-use Rattle.receive.proofs.Laws.{received-short}
+use Rattle.receive.proofs.Laws.{received-most}
 use Rattle.session_loop.specs.Line.{Report, shown, lineText, lineOf, reported}
 
 -- ---- the text of a line
@@ -81,23 +82,23 @@ module _ (number : ℕ) (reply text : List ℕ) (room : 2 * length reply + 4 ≤
 abbrev pub reportOf : Turn → ℕ → Report
 reportOf x n = record { card = x .card; used = x .used; reply = x .len; line = n }
 
--- the buffer for the reply has 64 bytes; `held`, `q` and `p` are the parts of the card after the call
-module _ (c : Card) (bytes before after held : List ℕ) (q : Numbers) (p : Plant) (t : Turned) (room : length before ≡ 64)
-    (does : Does (turnIn held q p t) after (received c bytes (length before)) before) where
+-- the buffer for the reply is long enough for every protocol; `held`, `q`, `p` and `i` are the parts of the card after the call
+module _ (c : Card) (bytes before after held : List ℕ) (q : Numbers) (p : Plant) (i : Identity) (t : Turned) (room : length before ≡ asciiLeast)
+    (does : Does (turnIn held q p i t) after (received c bytes (length before)) before) where
   abbrev r : Received
-  r = received c bytes 64
+  r = received c bytes asciiLeast
 
-  turns : Does (turnIn held q p t) after r before
-  turns = subst (λ (n : ℕ). Does (turnIn held q p t) after (received c bytes n) before) room does
+  turns : Does (turnIn held q p i t) after r before
+  turns = subst (λ (n : ℕ). Does (turnIn held q p i t) after (received c bytes n) before) room does
 
   same-len : t .len ≡ length (r .reply)
   same-len = ap (λ (x : Turn). x .len) (turns .0)
 
-  -- the reply is a part of its buffer, and its line fits into 64 characters
-  pub reply-fits : (t .len ≤ 19) × (length after ≡ 64)
+  -- the reply is a part of its buffer, and its line fits into 306 characters
+  pub reply-fits : (t .len ≤ 151) × (length after ≡ asciiLeast)
   reply-fits = (
-    rw same-len (received-short c bytes 64),
-    ap length (turns .1) ∙ length-front (r .reply) before (omega (arith, received-short c bytes 64)) ∙ room,
+    rw same-len (received-most c bytes asciiLeast),
+    ap length (turns .1) ∙ length-front (r .reply) before (omega (arith, received-most c bytes asciiLeast)) ∙ room,
   )
 
   reply-read : take (t .len - 0) after ≡ r .reply
@@ -116,12 +117,12 @@ module _ (c : Card) (bytes before after held : List ℕ) (q : Numbers) (p : Plan
     unfolding lineOf
     a-line h = let l : outcomeNumber (r .outcome) ≤ 9 = omega (arith, said) in rw (reply-read, said) (simp (le-ltb 9 (outcomeNumber (r .outcome)) l))
 
-    pub serve-none : (text : List ℕ) → 9 < number → (reportOf (turnIn held q p t) 0 ≡ reported r) × ((after ≡ front (r .reply) before) × (text ≡ front (lineOf r) text))
+    pub serve-none : (text : List ℕ) → 9 < number → (reportOf (turnIn held q p i t) 0 ≡ reported r) × ((after ≡ front (r .reply) before) × (text ≡ front (lineOf r) text))
     serve-none text h = let none : lineOf r ≡ [] = no-line h in rw none (ap (λ (x : Turn). reportOf x 0) (turns .0), (turns .1, sym (front-none text)))
 
     pub serve-line : (text out : List ℕ) (n : ℕ) → number ≤ 9
         → (n ≡ length (lineText number (take (t .len - 0) after))) × (out ≡ front (lineText number (take (t .len - 0) after)) text)
-        → (reportOf (turnIn held q p t) n ≡ reported r) × ((after ≡ front (r .reply) before) × (out ≡ front (lineOf r) text))
+        → (reportOf (turnIn held q p i t) n ≡ reported r) × ((after ≡ front (r .reply) before) × (out ≡ front (lineOf r) text))
     serve-line text out n h e =
         let count : n ≡ length (lineOf r) = e .0 ∙ ap length (a-line h) in
         let lent : out ≡ front (lineOf r) text = e .1 ∙ ap (λ (l : List ℕ). front l text) (a-line h) in

@@ -5,6 +5,7 @@ use lib.Dec.{ltb}
 use lib.ListN.{length}
 use Rattle.base.specs.Choice.{pick}
 use Rattle.hex.specs.Hex.{hexOf}
+use Rattle.identity.specs.Identity.{Identity}
 use Rattle.port.specs.Port.{Numbers}
 use Rattle.drive.specs.Plant.{Plant}
 use Rattle.card.specs.State.{cardOf}
@@ -37,5 +38,5 @@ abbrev pub reported : Received → Report
 reported r = record { card = r .card; used = r .used; reply = length (r .reply); line = length (lineOf r) }
 
 -- what the code hands back, with the parts of the card that it was lent
-abbrev pub reportedIn : List ℕ → Numbers → Plant → Reported → Report
-reportedIn held q p r = record { card = cardOf held (r .pending) q p; used = r .used; reply = r .reply; line = r .line }
+abbrev pub reportedIn : List ℕ → Numbers → Plant → Identity → Reported → Report
+reportedIn held q p i r = record { card = cardOf held (r .pending) q p i; used = r .used; reply = r .reply; line = r .line }

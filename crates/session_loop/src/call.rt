@@ -1,9 +1,12 @@
 // A call on bytes from the line, and what a program reports of it: document 01's "a line per taken message", for any protocol.
+use crate::line::LINE_MOST;
 use crate::line::write_line;
+use base::ASCII_REPLY;
 use drive::Plant;
+use identity::Identity;
 use port::Numbers;
 ghost use mathlib.Core.Path.{_≡_};
-ghost use Rattle.base.specs.Buffers.{front};
+ghost use Rattle.base.specs.Buffers.{front, asciiLeast};
 ghost use Rattle.card.specs.State.{cardOf};
 ghost use Rattle.receive.specs.Receive.{received};
 ghost use Rattle.session_loop.specs.Line.{lineOf, reported, reportedIn};
@@ -23,15 +26,16 @@ pub(crate) fn serve(
     len: usize,
     port: &mut Numbers,
     plant: &mut Plant,
+    identity: &Identity,
     bytes: &[u8],
-    reply: &mut [u8; 64],
-    text: &mut [u8; 64],
+    reply: &mut [u8; ASCII_REPLY],
+    text: &mut [u8; LINE_MOST],
 ) -> Reported
-    ensures turn { λ r. ⌜ reportedIn (now (held .exit)) (now (port .exit)) (now (plant .exit)) r ≡ reported (received (cardOf (now (held .entry)) len (now (port .entry)) (now (plant .entry))) (now (bytes .entry)) 64) ⌝ }
-    ensures lent { λ _. ⌜ now (reply .exit) ≡ front (received (cardOf (now (held .entry)) len (now (port .entry)) (now (plant .entry))) (now (bytes .entry)) 64 .reply) (now (reply .entry)) ⌝ }
-    ensures shown { λ _. ⌜ now (text .exit) ≡ front (lineOf (received (cardOf (now (held .entry)) len (now (port .entry)) (now (plant .entry))) (now (bytes .entry)) 64)) (now (text .entry)) ⌝ }
+    ensures turn { λ r. ⌜ reportedIn (now (held .exit)) (now (port .exit)) (now (plant .exit)) (now (identity .entry)) r ≡ reported (received (cardOf (now (held .entry)) len (now (port .entry)) (now (plant .entry)) (now (identity .entry))) (now (bytes .entry)) asciiLeast) ⌝ }
+    ensures lent { λ _. ⌜ now (reply .exit) ≡ front (received (cardOf (now (held .entry)) len (now (port .entry)) (now (plant .entry)) (now (identity .entry))) (now (bytes .entry)) asciiLeast .reply) (now (reply .entry)) ⌝ }
+    ensures shown { λ _. ⌜ now (text .exit) ≡ front (lineOf (received (cardOf (now (held .entry)) len (now (port .entry)) (now (plant .entry)) (now (identity .entry))) (now (bytes .entry)) asciiLeast)) (now (text .entry)) ⌝ }
 {
-    let t = receive::receive_in(held, len, port, plant, bytes, reply);
+    let t = receive::receive_in(held, len, port, plant, identity, bytes, reply);
     let n = t.len;
     let outcome = t.outcome;
     let number = outcome.number();

@@ -5,12 +5,16 @@
 mod call;
 mod line;
 
+use base::ASCII_REPLY;
 use call::serve;
 use card::Card;
 use card::Protocol;
 use drive::Plant;
+use identity::BLANK;
+use identity::Identity;
 use libc::STDIN_FILENO;
 use libc::STDOUT_FILENO;
+use line::LINE_MOST;
 use port::Numbers;
 ghost use mathlib.Core.Path.{_≡_};
 ghost use Rattle.card.specs.State.{cardOf};
@@ -22,16 +26,18 @@ pub enum Replies {
     Sent(i32),
 }
 
-// The session: reads NFO serial on standard input to its end, from a fresh card on. Each line is written as soon as the last byte of its message was read.
+// The session: reads NFO serial on standard input to its end, from a fresh card on, whose identity nobody asks for there. Each line is written as
+// soon as the last byte of its message was read.
 pub fn run()
     ensures { λ r. ⌜ r ≡ tt ⌝ }
 {
-    let card = Card::start(Protocol::Nfo);
+    let card = Card::start(Protocol::Nfo, BLANK);
     let line = card.port;
     let pending = line.pending;
     let mut held = pending.bytes;
     let mut port = line.numbers;
     let mut plant = card.plant;
+    let identity = card.identity;
     let mut len = pending.len;
     let mut scrap = io::buffer();
     let mut turns = u64::MAX;
@@ -46,6 +52,7 @@ pub fn run()
             len,
             &mut port,
             &mut plant,
+            &identity,
             &scrap[..n],
             Replies::Unsent,
         );
@@ -60,14 +67,15 @@ pub fn serve_all(
     len: usize,
     port: &mut Numbers,
     plant: &mut Plant,
+    identity: &Identity,
     scrap: &[u8],
     replies: Replies,
 ) -> usize
-    ensures calls { λ r. ⌜ EndsAt (cardOf (now (held .entry)) len (now (port .entry)) (now (plant .entry))) (now (scrap .entry)) (cardOf (now (held .exit)) r (now (port .exit)) (now (plant .exit))) ⌝ }
-    ensures whole { λ r. ⌜ Handed (cardOf (now (held .entry)) len (now (port .entry)) (now (plant .entry))) (now (scrap .entry)) (cardOf (now (held .exit)) r (now (port .exit)) (now (plant .exit))) ⌝ }
+    ensures calls { λ r. ⌜ EndsAt (cardOf (now (held .entry)) len (now (port .entry)) (now (plant .entry)) (now (identity .entry))) (now (scrap .entry)) (cardOf (now (held .exit)) r (now (port .exit)) (now (plant .exit)) (now (identity .entry))) ⌝ }
+    ensures whole { λ r. ⌜ Handed (cardOf (now (held .entry)) len (now (port .entry)) (now (plant .entry)) (now (identity .entry))) (now (scrap .entry)) (cardOf (now (held .exit)) r (now (port .exit)) (now (plant .exit)) (now (identity .entry))) ⌝ }
 {
-    let mut reply = [0u8; 64];
-    let mut text = [0u8; 64];
+    let mut reply = [0u8; ASCII_REPLY];
+    let mut text = [0u8; LINE_MOST];
     let mut pending = len;
     let mut at: usize = 0;
     while at < scrap.len() {
@@ -76,28 +84,32 @@ pub fn serve_all(
             pending,
             port,
             plant,
+            identity,
             &scrap[at..],
             &mut reply,
             &mut text,
         );
         send(replies, &reply, t.reply);
-        write(STDOUT_FILENO, &text, t.line);
+        print(&text, t.line);
         at += t.used;
         pending = t.pending;
     }
     pending
 }
 
-fn send(replies: Replies, reply: &[u8; 64], len: usize) {
+fn send(replies: Replies, reply: &[u8; ASCII_REPLY], len: usize) {
     match replies {
         Replies::Unsent => {}
-        Replies::Sent(port) => write(port, reply, len),
+        Replies::Sent(port) => write(port, &reply[..], len),
     }
 }
 
-fn write(to: i32, bytes: &[u8; 64], len: usize) {
-    let whole = &bytes[..];
-    if len <= whole.len() {
-        io::write_all(to, &whole[0..len]);
+fn print(line: &[u8; LINE_MOST], len: usize) {
+    write(STDOUT_FILENO, &line[..], len);
+}
+
+fn write(to: i32, bytes: &[u8], len: usize) {
+    if len <= bytes.len() {
+        io::write_all(to, &bytes[0..len]);
     }
 }

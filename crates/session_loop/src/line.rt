@@ -5,6 +5,9 @@ ghost use lib.ListN.{length};
 ghost use Rattle.base.specs.Buffers.{front};
 ghost use Rattle.session_loop.specs.Line.{lineText};
 
+// The longest line: that of an ASCII reply of 151 bytes, which is the longest there is.
+pub(crate) const LINE_MOST: usize = 306;
+
 // Puts the line at the start of `text`, and tells its length: the outcome, a space, the reply in hex or `-`, a line's end.
 pub(crate) fn write_line(number: u32, reply: &[u8], text: &mut [u8]) -> usize
     requires { ⌜ 2 * length (now reply) + 4 ≤ length (now text) ⌝ }

@@ -8,6 +8,7 @@ mod workload;
 
 use card::Card;
 use card::Protocol;
+use identity::BLANK;
 use libc::STDERR_FILENO;
 use libc::STDIN_FILENO;
 use libc::STDOUT_FILENO;
@@ -49,12 +50,13 @@ fn print(word: &[u8], rounds: u64, bytes: usize, tally: Tally) {
 
 // The rounds over a workload, from a fresh card on.
 fn run(protocol: Protocol, rounds: u64, bytes: &[u8], ends: &[usize; 4096]) -> Tally {
-    let card = Card::start(protocol);
+    let card = Card::start(protocol, BLANK);
     let line = card.port;
     let pending = line.pending;
     let mut held = pending.bytes;
     let mut port = line.numbers;
     let mut plant = card.plant;
+    let identity = card.identity;
     let mut tally = Tally {
         pending: pending.len,
         sum: 0,
@@ -62,7 +64,15 @@ fn run(protocol: Protocol, rounds: u64, bytes: &[u8], ends: &[usize; 4096]) -> T
     };
     let mut left = rounds;
     while left > 0 {
-        let next = round(&mut held, &mut port, &mut plant, tally, bytes, ends);
+        let next = round(
+            &mut held,
+            &mut port,
+            &mut plant,
+            &identity,
+            tally,
+            bytes,
+            ends,
+        );
         tally = next;
         left -= 1;
     }

@@ -1,6 +1,7 @@
 // Rounds over a workload, in memory: its pieces go to the card one after another, the unused rest of a piece again at once.
-use base::REPLY_LEAST;
+use base::ASCII_REPLY;
 use drive::Plant;
+use identity::Identity;
 use port::Numbers;
 use port::PROTOCOL;
 ghost use mathlib.Core.Path.{_≡_};
@@ -20,11 +21,12 @@ pub(crate) fn round(
     held: &mut [u8; 512],
     port: &mut Numbers,
     plant: &mut Plant,
+    identity: &Identity,
     tally: Tally,
     bytes: &[u8],
     ends: &[usize; 4096],
 ) -> Tally {
-    let mut reply = [0u8; REPLY_LEAST];
+    let mut reply = [0u8; ASCII_REPLY];
     let mut t = tally;
     let rtu = port[PROTOCOL] == 1;
     let mut at: usize = 0;
@@ -32,7 +34,7 @@ pub(crate) fn round(
     let mut k: usize = 0;
     while at < bytes.len() {
         end = piece_end(end, rtu, ends[k], at, bytes.len());
-        let c = call(held, port, plant, t, &bytes[at..end], &mut reply);
+        let c = call(held, port, plant, identity, t, &bytes[at..end], &mut reply);
         at += c.used;
         k = (k + 1) % 4096;
         let next = c.tally;
@@ -52,14 +54,15 @@ fn call(
     held: &mut [u8; 512],
     port: &mut Numbers,
     plant: &mut Plant,
+    identity: &Identity,
     tally: Tally,
     bytes: &[u8],
-    reply: &mut [u8; REPLY_LEAST],
+    reply: &mut [u8; ASCII_REPLY],
 ) -> Called
     ensures within { λ r. ⌜ r .used ≤ length (now (bytes .entry)) ⌝ }
     ensures some { λ r. ⌜ (0 < length (now (bytes .entry)) → 0 < r .used) ⌝ }
 {
-    let t = receive::receive_in(held, tally.pending, port, plant, bytes, reply);
+    let t = receive::receive_in(held, tally.pending, port, plant, identity, bytes, reply);
     let outcome = t.outcome;
     let number = outcome.number();
     Called {

@@ -2,11 +2,12 @@
 use mathlib.Core.List.{List, []}
 use Prim.Native.Nat.{ℕ}
 use lib.ListN.{length}
+use Rattle.identity.specs.Identity.{Identity}
 use Rattle.pending.specs.declared.Pending.{Pending}
 use Rattle.pending.specs.Scanning.{Scan}
 use Rattle.pending.specs.Held.{emptied}
 use Rattle.answers.specs.declared.Answer.{Answer}
-use Rattle.answers.specs.declared.Answer.the-variants.{Told, Written, NotOurs, Refused}
+use Rattle.answers.specs.declared.Answer.the-variants.{Told, Written, Identified, NotOurs, Refused}
 use Rattle.service.specs.Serving.{Served}
 use Rattle.port.specs.Port.{Numbers, withSum}
 use Rattle.card.specs.State.{withPending}
@@ -26,7 +27,7 @@ pub record Received : Type 0 where
 abbrev pub turnOf : Received → Turn
 turnOf r = record { card = r .card; outcome = r .outcome; used = r .used; len = length (r .reply) }
 
--- "A reply buffer under 19 bytes is 10, with no byte used"
+-- "A reply buffer under .. is 10, with no byte used"
 abbrev pub tooShort : Card → Received
 tooShort c = record { card = c; outcome = Outcomes.ShortBuffer; used = 0; reply = [] }
 
@@ -39,13 +40,14 @@ waiting c scan = record { card = withPending (scan .pending) c; outcome = Outcom
 abbrev pub portAfter : Answer → Numbers → Numbers
 portAfter (Told row word) q = withSum 0 q
 portAfter (Written change) q = withSum 0 q
+portAfter (Identified part) q = withSum 0 q
 portAfter NotOurs q = q
 portAfter (Refused refusal) q = withSum 0 q
 
--- "what is pending after a taken message is empty"
-unfoldable pub cardAfter : Pending → Served → Card
-cardAfter held s = record { port = record { pending = emptied held; numbers = portAfter (s .answer) (s .port) }; plant = s .plant }
+-- "what is pending after a taken message is empty"; "No message changes the identity"
+unfoldable pub cardAfter : Identity → Pending → Served → Card
+cardAfter i held s = record { port = record { pending = emptied held; numbers = portAfter (s .answer) (s .port) }; plant = s .plant; identity = i }
 
 -- "Each outcome carries what was done or the reason"
-abbrev pub answered : Pending → ℕ → Served → List ℕ → Received
-answered held used s reply = record { card = cardAfter held s; outcome = Outcomes.Served (s .answer); used = used; reply = reply }
+abbrev pub answered : Identity → Pending → ℕ → Served → List ℕ → Received
+answered i held used s reply = record { card = cardAfter i held s; outcome = Outcomes.Served (s .answer); used = used; reply = reply }

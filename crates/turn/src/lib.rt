@@ -62,6 +62,9 @@ pub fn after_message(port: &mut Numbers, answer: Answer)
         Answer::Written(_) => {
             port[SUM] = 0;
         }
+        Answer::Identified(_) => {
+            port[SUM] = 0;
+        }
         Answer::Refused(_) => {
             port[SUM] = 0;
         }

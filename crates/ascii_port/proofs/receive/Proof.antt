@@ -9,20 +9,20 @@ returns : tie.Need-returns
 unfolding asciiReceived
 returns c =
     let a = c .before .before .before .before .args in
-    short asciiStream (a .held .now) _ (a .port .now) (a .plant .now) (a .bytes .now) (a .reply .now) _ (c .before .if1 .taken) (c .short-buffer .ensures)
+    short asciiStream (a .held .now) _ (a .port .now) (a .plant .now) (a .identity .now) (a .bytes .now) (a .reply .now) _ (c .before .if1 .taken) (c .short-buffer .ensures)
 
 returns-2 : tie.Need-returns-2
 unfolding asciiReceived
 returns-2 c =
     let a = c .before .before .before .before .before .before .before .before .args in
-    waits asciiStream (a .held .now) (a .len) (a .port .now) (a .plant .now) (a .bytes .now) (a .reply .now) _ (c .before .before .before .scan .result)
+    waits asciiStream (a .held .now) (a .len) (a .port .now) (a .plant .now) (a .identity .now) (a .bytes .now) (a .reply .now) _ (c .before .before .before .scan .result)
     (c .before .before .before .before .before .if1 .left) (c .before .before .before .scan .ensures) _ (c .before .if2 .taken) (c .nothing-taken .ensures)
 
 returns-3 : tie.Need-returns-3
 unfolding asciiReceived
 returns-3 c =
     let a = c .before .before .before .before .before .before .before .before .before .before .before .before .before .before .args in
-    takes asciiStream (a .held .now) (a .len) (a .port .now) (a .plant .now) (a .bytes .now) (a .reply .now) _ (c .before .before .before .before .before .before .before .before .before .scan .result)
+    takes asciiStream (a .held .now) (a .len) (a .port .now) (a .plant .now) (a .identity .now) (a .bytes .now) (a .reply .now) _ (c .before .before .before .before .before .before .before .before .before .scan .result)
     (c .before .before .before .before .before .before .before .before .before .before .before .if1 .left) (c .before .before .before .before .before .before .before .before .before .scan .ensures) _ _ (c .before .before .before .before .before .before .before .if2 .left) (c .before .before .take .ensures)
 
 pub receive-spec : {M : Type 1} → statement M

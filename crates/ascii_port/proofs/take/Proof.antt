@@ -7,7 +7,7 @@ use Rattle.ascii_port.proofs.take.Tie as tie
 returns : tie.Need-returns
 returns c =
     let a = c .before .before .before .before .before .before .before .before .before .before .before .args in
-    takes (a .held .now) (a .port .now) (a .plant .now) (a .scan) _ _ _ (a .reply .now)
+    takes (a .held .now) (a .port .now) (a .plant .now) (a .identity .now) (a .scan) _ _ _ (a .reply .now)
     (decoded _ _ _ _ (c .before .before .before .before .before .before .before .before .message-bytes .ensures)) (c .before .before .answer .ensures)
 
 pub take-spec : {M : Type 1} → statement M

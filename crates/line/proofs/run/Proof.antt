@@ -6,10 +6,10 @@ use Rattle.line.proofs.run.Statement.{statement}
 use Rattle.line.proofs.run.Tie as tie
 
 abbrev Inv-loop : tie.InvT-loop
-Inv-loop device start held₀ len₀ port₀ plant₀ scrap₀ last₀ turns₀ held len port plant scrap last turns = 4096 ≡ length scrap
+Inv-loop device start held₀ len₀ port₀ plant₀ identity scrap₀ last₀ turns₀ held len port plant scrap last turns = 4096 ≡ length scrap
 
 abbrev μ-loop : tie.MeasureT-loop
-μ-loop device start held₀ len₀ port₀ plant₀ scrap₀ last₀ turns₀ held len port plant scrap last turns = turns
+μ-loop device start held₀ len₀ port₀ plant₀ identity scrap₀ last₀ turns₀ held len port plant scrap last turns = turns
 
 pub run-spec : {M : Type 1} → statement M
 run-spec =

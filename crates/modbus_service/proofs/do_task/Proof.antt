@@ -1,6 +1,6 @@
 -- `modbus_service::do_task` meets its contract: a law for each task. Assumes nothing.
 use borrow.Author.Needs.{needs}
-use Rattle.modbus_service.proofs.Laws.{done-told, done-written, done-refused}
+use Rattle.modbus_service.proofs.Laws.{done-told, done-written, done-said}
 use Rattle.modbus_service.proofs.do_task.Statement.{statement}
 use Rattle.modbus_service.proofs.do_task.Tie as tie
 
@@ -15,4 +15,4 @@ do-task-spec =
     (λ c. search needs)
     (λ c. search done-told)
     (λ c. search done-written)
-    (λ c. search done-refused))
+    (λ c. search done-said))

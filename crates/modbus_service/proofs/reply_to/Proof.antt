@@ -2,7 +2,7 @@
 use borrow.Author.Needs.{needs}
 use Rattle.base.proofs.Tests.{tests}
 use Rattle.modbus_service.specs.Reply.{repliedBy}
-use Rattle.modbus_service.proofs.Laws.{replied-told, replied-written, replied-none, replied-refused}
+use Rattle.modbus_service.proofs.Laws.{replied-told, replied-written, replied-part, replied-none, replied-refused}
 use Rattle.modbus_service.proofs.reply_to.Statement.{statement}
 use Rattle.modbus_service.proofs.reply_to.Tie as tie
 
@@ -17,8 +17,10 @@ reply-to-spec =
     (λ c. search needs)
     (λ c. search needs)
     (λ c. search needs)
+    (λ c. search needs)
     (λ c κs. search needs)
     (λ c. search replied-told)
     (λ c. search replied-written)
+    (λ c. search replied-part)
     (λ c. search replied-none)
     (λ c. search replied-refused))

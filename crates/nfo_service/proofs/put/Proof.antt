@@ -27,6 +27,9 @@ enum-told-2 c = search needs
 enum-told-3 : tie.Need-enum-told-3
 enum-told-3 c = search needs
 
+enum-told-4 : tie.Need-enum-told-4
+enum-told-4 c = search needs
+
 nak-requires : tie.Need-nak-requires
 nak-requires c κs = search needs
 
@@ -48,12 +51,16 @@ returns-3 : tie.Need-returns-3
 unfolding repliedBy
 returns-3 c = put-none _ _ (ap (repliedBy _ _) (c .enum-told2 .given .1))
 
+returns-4 : tie.Need-returns-4
+unfolding repliedBy
+returns-4 c = put-none _ _ (ap (repliedBy _ _) (c .enum-told3 .given .1))
+
 same-length-3 : tie.Need-same-length-3
 same-length-3 c = search needs
 
-returns-4 : tie.Need-returns-4
+returns-5 : tie.Need-returns-5
 unfolding repliedBy
-returns-4 c = put-as _ _ _ _ (c .before .before .before .before .before .before .before .args .out .now) (ap (repliedBy _ _) (c .before .before .before .before .enum-told3 .given .1)) (c .before .before .nak .ensures)
+returns-5 c = put-as _ _ _ _ (c .before .before .before .before .before .before .before .args .out .now) (ap (repliedBy _ _) (c .before .before .before .before .enum-told4 .given .1)) (c .before .before .nak .ensures)
 
 pub put-spec : {M : Type 1} → statement M
 put-spec =
@@ -66,11 +73,13 @@ put-spec =
     ack-requires
     enum-told-2
     enum-told-3
+    enum-told-4
     nak-requires
     same-length
     returns
     same-length-2
     returns-2
     returns-3
+    returns-4
     same-length-3
-    returns-4)
+    returns-5)

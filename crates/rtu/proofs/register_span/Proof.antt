@@ -14,8 +14,8 @@ returns c = search (tests, span-broken)
 unit-in-requires : tie.Need-unit-in-requires
 unit-in-requires c κs = search needs
 
-request-of-requires : tie.Need-request-of-requires
-request-of-requires c κs = search needs
+asked-of-requires : tie.Need-asked-of-requires
+asked-of-requires c κs = search needs
 
 data-of-requires : tie.Need-data-of-requires
 data-of-requires c κs = search needs
@@ -30,6 +30,6 @@ register-span-spec =
     frame-holds-requires
     returns
     unit-in-requires
-    request-of-requires
+    asked-of-requires
     data-of-requires
     returns-2)

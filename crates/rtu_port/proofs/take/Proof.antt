@@ -7,7 +7,7 @@ use Rattle.rtu_port.proofs.take.Tie as tie
 returns : tie.Need-returns
 returns c =
     let a = c .before .before .before .before .before .before .before .before .before .before .before .before .before .args in
-    takes (a .held .now) (a .port .now) _ _ (a .plant .now) _ (a .frame .now) _ _ (c .before .before .before .before .before .before .serve .result) _ _ (a .reply .now)
+    takes (a .held .now) (a .port .now) _ _ (a .plant .now) _ (a .identity .now) (a .frame .now) _ _ (c .before .before .before .before .before .before .serve .result) _ _ (a .reply .now)
     (c .before .before .before .before .before .before .before .before .before .before .address-in .ensures) (c .before .before .before .before .before .before .before .before .before .unit-in .ensures) (c .before .before .before .before .before .before .serve .ensures)
     (c .before .before .before .before .after-message .ensures) (c .before .before .put .ensures)
 

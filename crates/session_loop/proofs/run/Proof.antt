@@ -6,10 +6,10 @@ use Rattle.session_loop.proofs.run.Statement.{statement}
 use Rattle.session_loop.proofs.run.Tie as tie
 
 abbrev Inv-loop : tie.InvT-loop
-Inv-loop held₀ port₀ plant₀ len₀ scrap₀ turns₀ held port plant len scrap turns = 4096 ≡ length scrap
+Inv-loop held₀ port₀ plant₀ identity len₀ scrap₀ turns₀ held port plant len scrap turns = 4096 ≡ length scrap
 
 abbrev μ-loop : tie.MeasureT-loop
-μ-loop held₀ port₀ plant₀ len₀ scrap₀ turns₀ held port plant len scrap turns = turns
+μ-loop held₀ port₀ plant₀ identity len₀ scrap₀ turns₀ held port plant len scrap turns = turns
 
 pub run-spec : {M : Type 1} → statement M
 run-spec =

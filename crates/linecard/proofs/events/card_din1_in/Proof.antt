@@ -1,4 +1,4 @@
--- `linecard::card_din1_in` meets its contract, whatever the port is. Assumes nothing.
+-- `linecard::card_din1_in` meets its contract, whatever the port and the identity are. Assumes nothing.
 use borrow.Author.Needs.{needs}
 use mathlib.Core.Path.{refl}
 use Rattle.linecard.specs.Host.{activeOf}

@@ -1,4 +1,4 @@
--- `linecard::card_end_cause_in` meets its contract, whatever the port is. Assumes nothing.
+-- `linecard::card_end_cause_in` meets its contract, whatever the port and the identity are. Assumes nothing.
 use borrow.Author.Needs.{needs}
 use Rattle.linecard.proofs.Laws.{ended-in}
 use Rattle.linecard.proofs.events.card_end_cause_in.Statement.{statement}

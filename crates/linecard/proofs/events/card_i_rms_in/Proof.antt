@@ -1,4 +1,4 @@
--- `linecard::card_i_rms_in` meets its contract, whatever the port is. Assumes nothing.
+-- `linecard::card_i_rms_in` meets its contract, whatever the port and the identity are. Assumes nothing.
 use borrow.Author.Needs.{needs}
 use Rattle.linecard.proofs.Laws.{measured-in}
 use Rattle.linecard.proofs.events.card_i_rms_in.Statement.{statement}

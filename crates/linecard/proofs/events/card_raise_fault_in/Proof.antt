@@ -1,4 +1,4 @@
--- `linecard::card_raise_fault_in` meets its contract, whatever the port is. Assumes nothing.
+-- `linecard::card_raise_fault_in` meets its contract, whatever the port and the identity are. Assumes nothing.
 use borrow.Author.Needs.{needs}
 use Rattle.linecard.proofs.Laws.{raised-in}
 use Rattle.linecard.proofs.events.card_raise_fault_in.Statement.{statement}

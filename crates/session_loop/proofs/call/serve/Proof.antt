@@ -11,25 +11,25 @@ returns : tie.Need-returns
 returns c =
     let a = c .before .before .before .before .before .before .before .before .args in
     let m = c .before .before .receive-in in
-    serve-none (cardOf (a .held .now) (a .len) (a .port .now) (a .plant .now)) (a .bytes .now) (a .reply .now) _ _ _ _ (m .result) (omega arith) (m .ensures) _ (c .before .number .ensures) (a .text .now) (omega (arith, c .if1 .taken))
+    serve-none (cardOf (a .held .now) (a .len) (a .port .now) (a .plant .now) (a .identity .now)) (a .bytes .now) (a .reply .now) _ _ _ _ _ (m .result) (omega arith) (m .ensures) _ (c .before .number .ensures) (a .text .now) (omega (arith, c .if1 .taken))
 
 part-write-line-end : tie.Need-part-write-line-end
 part-write-line-end c =
     let a = c .before .before .before .before .before .before .before .before .before .before .args in
     let m = c .before .before .before .before .receive-in in
-    omega (arith, reply-fits (cardOf (a .held .now) (a .len) (a .port .now) (a .plant .now)) (a .bytes .now) (a .reply .now) _ _ _ _ (m .result) (omega arith) (m .ensures))
+    omega (arith, reply-fits (cardOf (a .held .now) (a .len) (a .port .now) (a .plant .now) (a .identity .now)) (a .bytes .now) (a .reply .now) _ _ _ _ _ (m .result) (omega arith) (m .ensures))
 
 write-line-requires : tie.Need-write-line-requires
 write-line-requires c κs =
     let a = c .before .before .before .before .before .before .before .before .before .before .before .before .args in
     let m = c .before .before .before .before .before .before .receive-in in
-    simp length-take (omega (arith, reply-fits (cardOf (a .held .now) (a .len) (a .port .now) (a .plant .now)) (a .bytes .now) (a .reply .now) _ _ _ _ (m .result) (omega arith) (m .ensures)))
+    simp length-take (omega (arith, reply-fits (cardOf (a .held .now) (a .len) (a .port .now) (a .plant .now) (a .identity .now)) (a .bytes .now) (a .reply .now) _ _ _ _ _ (m .result) (omega arith) (m .ensures)))
 
 returns-2 : tie.Need-returns-2
 returns-2 c =
     let a = c .before .before .before .before .before .before .before .before .before .before .before .before .before .args in
     let m = c .before .before .before .before .before .before .before .receive-in in
-    serve-line (cardOf (a .held .now) (a .len) (a .port .now) (a .plant .now)) (a .bytes .now) (a .reply .now) _ _ _ _ (m .result) (omega arith) (m .ensures) _ (c .before .before .before .before .before .before .number .ensures) _ _ _ (omega (arith, c .before .before .before .before .before .if1 .left)) (c .write-line .ensures)
+    serve-line (cardOf (a .held .now) (a .len) (a .port .now) (a .plant .now) (a .identity .now)) (a .bytes .now) (a .reply .now) _ _ _ _ _ (m .result) (omega arith) (m .ensures) _ (c .before .before .before .before .before .before .number .ensures) _ _ _ (omega (arith, c .before .before .before .before .before .if1 .left)) (c .write-line .ensures)
 
 pub serve-spec : {M : Type 1} → statement M
 serve-spec =

@@ -10,8 +10,8 @@ returns : tie.Need-returns
 returns c =
     let a = c .before .before .before .before .before .before .before .before .before .args in
     let r = c .before .before .before .receive-in in (
-      used-within (cardOf (a .held .now) (a .tally .pending) (a .port .now) (a .plant .now)) (a .bytes .now) _ _ _ _ (r .result) (r .ensures .0),
-      used-some (cardOf (a .held .now) (a .tally .pending) (a .port .now) (a .plant .now)) (a .bytes .now) _ _ _ _ (r .result) (r .ensures .0) (omega arith),
+      used-within (cardOf (a .held .now) (a .tally .pending) (a .port .now) (a .plant .now) (a .identity .now)) (a .bytes .now) _ _ _ _ _ (r .result) (r .ensures .0),
+      used-some (cardOf (a .held .now) (a .tally .pending) (a .port .now) (a .plant .now) (a .identity .now)) (a .bytes .now) _ _ _ _ _ (r .result) (r .ensures .0) (omega arith),
     )
 
 pub call-spec : {M : Type 1} → statement M

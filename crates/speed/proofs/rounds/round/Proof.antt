@@ -7,10 +7,10 @@ use Rattle.speed.proofs.rounds.round.Statement.{statement}
 use Rattle.speed.proofs.rounds.round.Tie as tie
 
 abbrev Inv-loop : tie.InvT-loop
-Inv-loop held₀ port₀ plant₀ bytes ends reply₀ t₀ rtu at₀ end₀ k₀ held port plant reply t at end k = (at ≤ length bytes) × (end ≤ length bytes) × (k < 4096)
+Inv-loop held₀ port₀ plant₀ identity bytes ends reply₀ t₀ rtu at₀ end₀ k₀ held port plant reply t at end k = (at ≤ length bytes) × (end ≤ length bytes) × (k < 4096)
 
 abbrev μ-loop : tie.MeasureT-loop
-μ-loop held₀ port₀ plant₀ bytes ends reply₀ t₀ rtu at₀ end₀ k₀ held port plant reply t at end k = length bytes - at
+μ-loop held₀ port₀ plant₀ identity bytes ends reply₀ t₀ rtu at₀ end₀ k₀ held port plant reply t at end k = length bytes - at
 
 loop-less : tie.Need-loop-less Inv-loop μ-loop
 loop-less c =

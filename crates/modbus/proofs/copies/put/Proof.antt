@@ -1,9 +1,9 @@
--- `modbus::replies::put` meets its contract: a `set` past the end changes nothing. Assumes nothing.
+-- `modbus::copies::put` meets its contract: a `set` past the end changes nothing. Assumes nothing.
 use mathlib.Core.Path.{sym}
 use borrow.Author.Needs.{needs}
 use lib.Seq.{set-out}
-use Rattle.modbus.proofs.replies.put.Statement.{statement}
-use Rattle.modbus.proofs.replies.put.Tie as tie
+use Rattle.modbus.proofs.copies.put.Statement.{statement}
+use Rattle.modbus.proofs.copies.put.Tie as tie
 
 slice-write-slice : tie.Need-slice-write-slice
 slice-write-slice c = search needs
