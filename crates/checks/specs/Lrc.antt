@@ -20,6 +20,9 @@ totalOf (b ∷ s) = b + totalOf s
 unfoldable pub addsToZero : List ℕ → Bool
 addsToZero s = eqb (sumOf s) 0
 
--- the byte that, put last, makes them do so
+-- the byte that, put last, makes bytes that add to `sum` do so
+abbrev pub lrcAfter : ℕ → ℕ
+lrcAfter sum = (256 - sum) % 256
+
 unfoldable pub lrcOf : List ℕ → ℕ
-lrcOf s = (256 - sumOf s) % 256
+lrcOf s = lrcAfter (sumOf s)

@@ -3,7 +3,7 @@
 ghost use mathlib.Core.Path.{_≡_};
 ghost use Prim.Native.Nat.{_+_, _*_};
 ghost use Rattle.checks.specs.Bcc.{bccOf};
-ghost use Rattle.checks.specs.Lrc.{sumOf, addsToZero, lrcOf};
+ghost use Rattle.checks.specs.Lrc.{sumOf, addsToZero, lrcAfter};
 ghost use Rattle.checks.specs.Crc.{crcBit, crcByte, crcOf, crcHolds};
 
 // The exclusive-or of all bytes.
@@ -32,11 +32,11 @@ fn sum(bytes: &[u8]) -> u8
     so_far
 }
 
-// The byte that, put after the bytes, makes all add to 0 modulo 256.
-pub fn lrc(bytes: &[u8]) -> u8
-    ensures { λ r. ⌜ r ≡ lrcOf (now (bytes .entry)) ⌝ }
+// The LRC of bytes that add to `sum` modulo 256: the byte that, put after them, makes all add to 0.
+pub fn lrc(sum: u8) -> u8
+    ensures { λ r. ⌜ r ≡ lrcAfter sum ⌝ }
 {
-    ((256 - (sum(bytes) as u16)) % 256) as u8
+    ((256 - (sum as u16)) % 256) as u8
 }
 
 // Whether all bytes add to 0 modulo 256.

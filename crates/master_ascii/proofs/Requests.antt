@@ -1,18 +1,16 @@
--- What the code makes of a request: behind the address and the unit, in an array of 256 bytes, goes their LRC, and the message of these is put where it fits.
--- Assumes nothing.
-use mathlib.Core.Path.{_≡_, refl, sym, ap, ap₂, _∙_}
+-- What the code makes of a request: the message of the address and the unit is put where it fits. Assumes nothing.
+use mathlib.Core.Path.{_≡_, refl, sym, ap, _∙_}
 use mathlib.Core.Bool.{Bool, true, false}
 use mathlib.Core.List.{List, [], _∷_, _++_}
-use Prim.Native.Nat.{ℕ, suc, _+_, _-_, _≤_, _<_}
+use Prim.Native.Nat.{ℕ, _-_, _≤_, _<_}
 use native.Mathlib.Omega.{arith}
 use borrow.Author.Tests.{leb-true, leb-false}
 use lib.Dec.{leb}
-use lib.ListN.{length, take, set, length-set}
-use lib.Seq.{take-suc-set}
+use lib.ListN.{length, take}
 use Rattle.base.specs.Buffers.{front, fitting}
 use Rattle.base.proofs.Sets.{fitting-all, fitting-none}
 use Rattle.checks.specs.Lrc.{lrcOf}
-use Rattle.ascii.specs.Ascii.{textOf, asciiOf}
+use Rattle.ascii.specs.Ascii.{textOf, withLrc, asciiOf}
 use Rattle.ascii.proofs.Message.{text-length}
 use Rattle.master.specs.declared.Sent.the-variants.{Written, ShortBuffer}
 use Rattle.master.specs.Sent.{sentOf, bytesSent}
@@ -20,7 +18,7 @@ use Rattle.master.proofs.Sends.{short-sent, short-bytes, written-sent, written-
 use Rattle.master_request.specs.declared.Ask.{Ask}
 use Rattle.master_request.specs.declared.Body.{Body}
 use Rattle.master_request.specs.Ask.{sayable, requestUnit, bodyWith, bodySaid}
-use Rattle.master_request.proofs.Made.{said, first-within, array-length, body-taken}
+use Rattle.master_request.proofs.Made.{said, body-taken}
 
 -- ---- the message m, put into the text t: `put_text` tells its length, or 0
 module _ (m t : List ℕ) (some : 1 ≤ length m) (r : ℕ) (count : r ≡ length (fitting m (length t))) where
@@ -38,60 +36,49 @@ module _ (m t : List ℕ) (some : 1 ≤ length m) (r : ℕ) (count : r ≡ lengt
       go true h = leb-true (length m) (length t) h
       go false h = absurd (n (count ∙ ap length (fitting-none m (length t) (leb-false (length m) (length t) h))))
 
--- ---- the body, its LRC behind it
+-- ---- the body, and its message
 module _ (a : ℕ) (ask : Ask) (s : List ℕ) (b : Body) (made : b ≡ bodyWith (bodySaid a ask s)) (some : b .size ≡ 0 → ⊥) where
-  pub all-within : (x : ℕ) → b .size + 1 ≤ length (set (b .bytes) (b .size) x)
-  all-within x = omega (arith, length-set (b .bytes) (b .size) x, array-length a ask s b made some, first-within a ask s b made some)
+  message : textOf (withLrc (take (b .size - 0) (b .bytes))) ≡ asciiOf a (requestUnit ask s)
+  unfolding asciiOf
+  message = ap (λ (l : List ℕ). textOf (withLrc l)) (body-taken a ask s b made some)
 
-  module _ (x : ℕ) (h : x ≡ lrcOf (take (b .size - 0) (b .bytes))) where
-    message : textOf (take (b .size + 1 - 0) (set (b .bytes) (b .size) x)) ≡ asciiOf a (requestUnit ask s)
-    unfolding asciiOf
-    message =
-        let body : take (b .size - 0) (b .bytes) ≡ a ∷ requestUnit ask s = body-taken a ask s b made some in
-        let k : b .size + 1 - 0 ≡ suc (b .size) = omega arith in
-        let n : b .size ≡ b .size - 0 = omega arith in
-        ap textOf
-        (ap (λ (i : ℕ). take i (set (b .bytes) (b .size) x)) k
-        ∙ take-suc-set (b .bytes) (b .size) x (omega (arith, array-length a ask s b made some, first-within a ask s b made some))
-        ∙ ap₂ (λ (p : List ℕ) (y : ℕ). p ++ y ∷ []) (ap (λ (i : ℕ). take i (b .bytes)) n ∙ body) (h ∙ ap lrcOf body))
+  -- the text t, of which `put_text` told r
+  module _ (t : List ℕ) (r : ℕ) (count : r ≡ length (fitting (textOf (withLrc (take (b .size - 0) (b .bytes)))) (length t))) where
+    m : List ℕ
+    m = asciiOf a (requestUnit ask s)
 
-    -- the text t, of which `put_text` told r
-    module _ (t : List ℕ) (r : ℕ) (count : r ≡ length (fitting (textOf (take (b .size + 1 - 0) (set (b .bytes) (b .size) x))) (length t))) where
-      m : List ℕ
-      m = asciiOf a (requestUnit ask s)
+    some-text : 1 ≤ length m
+    unfolding m asciiOf
+    some-text = omega (arith, text-length ((a ∷ requestUnit ask s) ++ lrcOf (a ∷ requestUnit ask s) ∷ []))
 
-      some-text : 1 ≤ length m
-      unfolding m asciiOf
-      some-text = omega (arith, text-length ((a ∷ requestUnit ask s) ++ lrcOf (a ∷ requestUnit ask s) ∷ []))
+    told : r ≡ length (fitting m (length t))
+    unfolding m
+    told = count ∙ ap (λ (y : List ℕ). length (fitting y (length t))) message
 
-      told : r ≡ length (fitting m (length t))
+    pub text-short : r ≡ 0 → ShortBuffer ≡ sentOf (sayable a ask (length s)) (asciiOf a (requestUnit ask s)) (length t)
+    unfolding m
+    text-short e = short-sent (sayable a ask (length s)) m t (said a ask s b made some) (too-short m t some-text r told e)
+
+    pub text-sent : (r ≡ 0 → ⊥) → Written r ≡ sentOf (sayable a ask (length s)) (asciiOf a (requestUnit ask s)) (length t)
+    unfolding m
+    text-sent n =
+        let fits : length m ≤ length t = has-room m t some-text r told n in
+        written-sent (sayable a ask (length s)) m t (said a ask s b made some) fits r (told ∙ ap length (fitting-all m (length t) fits))
+
+    -- and which is now z
+    module _ (z : List ℕ) (q : z ≡ front (fitting (textOf (withLrc (take (b .size - 0) (b .bytes)))) (length t)) t) where
+      stored : z ≡ front (fitting m (length t)) t
       unfolding m
-      told = count ∙ ap (λ (y : List ℕ). length (fitting y (length t))) message
+      stored = q ∙ ap (λ (y : List ℕ). front (fitting y (length t)) t) message
 
-      pub text-short : r ≡ 0 → ShortBuffer ≡ sentOf (sayable a ask (length s)) (asciiOf a (requestUnit ask s)) (length t)
+      pub text-short-lent : r ≡ 0 → z ≡ front (bytesSent (sayable a ask (length s)) (asciiOf a (requestUnit ask s)) (length t)) t
       unfolding m
-      text-short e = short-sent (sayable a ask (length s)) m t (said a ask s b made some) (too-short m t some-text r told e)
+      text-short-lent e =
+          let short : length t < length m = too-short m t some-text r told e in
+          stored ∙ ap (λ (y : List ℕ). front y t) (fitting-none m (length t) short ∙ sym (short-bytes (sayable a ask (length s)) m t (said a ask s b made some) short))
 
-      pub text-sent : (r ≡ 0 → ⊥) → Written r ≡ sentOf (sayable a ask (length s)) (asciiOf a (requestUnit ask s)) (length t)
+      pub text-lent : (r ≡ 0 → ⊥) → z ≡ front (bytesSent (sayable a ask (length s)) (asciiOf a (requestUnit ask s)) (length t)) t
       unfolding m
-      text-sent n =
+      text-lent n =
           let fits : length m ≤ length t = has-room m t some-text r told n in
-          written-sent (sayable a ask (length s)) m t (said a ask s b made some) fits r (told ∙ ap length (fitting-all m (length t) fits))
-
-      -- and which is now z
-      module _ (z : List ℕ) (q : z ≡ front (fitting (textOf (take (b .size + 1 - 0) (set (b .bytes) (b .size) x))) (length t)) t) where
-        stored : z ≡ front (fitting m (length t)) t
-        unfolding m
-        stored = q ∙ ap (λ (y : List ℕ). front (fitting y (length t)) t) message
-
-        pub text-short-lent : r ≡ 0 → z ≡ front (bytesSent (sayable a ask (length s)) (asciiOf a (requestUnit ask s)) (length t)) t
-        unfolding m
-        text-short-lent e =
-            let short : length t < length m = too-short m t some-text r told e in
-            stored ∙ ap (λ (y : List ℕ). front y t) (fitting-none m (length t) short ∙ sym (short-bytes (sayable a ask (length s)) m t (said a ask s b made some) short))
-
-        pub text-lent : (r ≡ 0 → ⊥) → z ≡ front (bytesSent (sayable a ask (length s)) (asciiOf a (requestUnit ask s)) (length t)) t
-        unfolding m
-        text-lent n =
-            let fits : length m ≤ length t = has-room m t some-text r told n in
-            stored ∙ ap (λ (y : List ℕ). front y t) (fitting-all m (length t) fits ∙ sym (written-bytes (sayable a ask (length s)) m t (said a ask s b made some) fits))
+          stored ∙ ap (λ (y : List ℕ). front y t) (fitting-all m (length t) fits ∙ sym (written-bytes (sayable a ask (length s)) m t (said a ask s b made some) fits))

@@ -27,10 +27,8 @@ pub fn write_request(address: u8, ask: Ask, registers: &[u8], out: &mut [u8]) ->
     if end == 0 {
         return Sent::CannotBeSaid;
     }
-    let mut bytes = body.bytes;
-    bytes[end] = checks::lrc(&bytes[0..end]);
-    let all = end + 1;
-    let size = ascii::put_text(&bytes[0..all], out);
+    let bytes = body.bytes;
+    let size = ascii::put_text(&bytes[0..end], out);
     if size == 0 {
         return Sent::ShortBuffer;
     }

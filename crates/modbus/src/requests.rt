@@ -116,21 +116,29 @@ fn numbering(size: usize) -> Request
     Request::Malformed(17)
 }
 
-// What the data unit `unit` asks by one of the four functions: its function, label and numbers, or that it is malformed; any other function is unknown.
+// What the data unit `unit` asks by one of the four functions: its function, label and numbers, or that it is malformed; any other function is unknown. None of the four has
+// fewer than 5 bytes, so of a shorter unit the function alone counts.
 pub fn asked_of(unit: &[u8]) -> Request
     ensures { λ r. ⌜ r ≡ askedOf (now (unit .entry)) ⌝ }
 {
     let function = byte_at(unit, 0);
+    if unit.len() < 5 {
+        return asked(unit.len(), function, 0, 0, 0);
+    }
     let register = word_at(unit, 1);
     let number = word_at(unit, 3);
     asked(unit.len(), function, register, number, byte_at(unit, 5))
 }
 
-// What the data unit `unit` asks: by 43, by 17, or by the four functions.
+// What the data unit `unit` asks: by the four functions, or by 43 or 17.
 pub fn request_of(unit: &[u8]) -> Request
     ensures { λ r. ⌜ r ≡ requestOf (now (unit .entry)) ⌝ }
 {
-    match byte_at(unit, 0) {
+    let request = asked_of(unit);
+    let Request::Unknown(function) = request else {
+        return request;
+    };
+    match function {
         43 => identifying(
             unit.len(),
             byte_at(unit, 1),
@@ -138,6 +146,6 @@ pub fn request_of(unit: &[u8]) -> Request
             byte_at(unit, 3),
         ),
         17 => numbering(unit.len()),
-        _ => asked_of(unit),
+        _ => Request::Unknown(function),
     }
 }
