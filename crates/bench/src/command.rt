@@ -3,6 +3,7 @@ use bench_words::Number;
 use bench_words::Short;
 use bench_words::Spelling;
 use card::Protocol;
+use identity::LENGTH;
 use protocols::Named;
 
 // A command. Where it has a HEX, its last number tells how many bytes that spells; the first of `Call` is the buffer's size. The HEX of `StartAs` is an identity.
@@ -61,7 +62,7 @@ fn start_as(word: &[u8], option: &[u8], hex: &[u8], bytes: &mut [u8]) -> Command
     let Spelling::Bytes(n) = bench_words::spelt(hex, bytes) else {
         return Command::NotACommand;
     };
-    if n != 41 {
+    if n != LENGTH {
         return Command::NotACommand;
     }
     if check::same(option, b"identity") {

@@ -9,6 +9,7 @@ use card::Protocol;
 use drive::Measured;
 use identity::BLANK;
 use identity::Identity;
+use identity::LENGTH;
 
 // The answer to what is no command.
 pub(crate) fn unknown() {
@@ -155,8 +156,8 @@ fn hear(protocol: Protocol, reply: &[u8]) {
 // The identity at the start of the bytes.
 fn identity_in(spelt: &[u8]) -> Identity {
     let mut identity = BLANK;
-    if 41 <= spelt.len() {
-        bytes::copy(&spelt[0..41], &mut identity);
+    if LENGTH <= spelt.len() {
+        bytes::copy(&spelt[0..LENGTH], &mut identity);
     }
     identity
 }

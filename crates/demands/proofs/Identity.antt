@@ -41,7 +41,7 @@ use Rattle.receive.specs.Receive.{received}
 use Rattle.receive.proofs.Laws.{by-rtu, enough-rtu}
 use Rattle.demands.specs.Calls.{LongEnough, modbusAscii, besides}
 use Rattle.demands.specs.Kept.{Sound}
-use Rattle.demands.specs.Identity.{text, Objects, none, next, Range, basic, basic-outside, regular, regular-outside, one, asksObjects, TellsObjects, asksSerial, TellsSerial, WhoAreYou}
+use Rattle.demands.specs.Identity.{text, Objects, none, next, Range, basic, basic-outside, regular, regular-outside, one, asksObjects, TellsObjects, asksSerial, TellsSerial, Asked, WhoAreYou}
 use Rattle.demands.proofs.Streamed.{ascii-streamed}
 use Rattle.demands.proofs.Asking.{whole-outcome, whole-reply}
 
@@ -212,46 +212,36 @@ module _ (c : Card) (sound : Sound c) where
   one-below = (omega (arith, sound .plant .station .1), (omega arith, tt))
 
 -- ---- WHO ARE YOU
+-- a message of a unit u over a line of Modbus, where it is answered by a part of the identity: it is done, and the reply tells the part
+pub record Tells (made : ℕ → List ℕ → List ℕ) (c : Card) (room : ℕ) (u : List ℕ) (part : Part) : Type 0 where
+  pub done : outcomeNumber (received (besides c) (made (station (c .plant)) u) room .outcome) ≡ 0
+  pub reply : received (besides c) (made (station (c .plant)) u) room .reply ≡ made (station (c .plant)) (partUnit (c .identity) part)
+
+-- so it is over a line on which each such unit tells its part
+module _ (protocol : ℕ) (made : ℕ → List ℕ → List ℕ)
+    (tells : (c : Card) (sound : Sound c) → protocolOf c ≡ protocol → (room : ℕ) → LongEnough c room → (u : List ℕ) → 1 ≤ length u → length u ≤ 253 → Bytes (station (c .plant) ∷ u) → (part : Part)
+    → Says c sound u part → Tells made c room u part) where
+  asked : Asked protocol made
+  asked =
+      record {
+        objects = λ c sound speaks code object first last r small room enough.
+            let h = in-range code object first last r in
+            let e = tells c sound speaks room enough _ (omega arith) (omega arith) (four-below c sound code object (h .2) small) _ (says-objects c sound code object first last r) in
+            record { unit = partUnit (c .identity) (Parts.Objects code first last); told = tells-objects (c .identity) first last (h .1) code (h .0); done = e .done; reply = e .reply };
+        serial = λ c sound speaks room enough.
+            let e = tells c sound speaks room enough _ (omega arith) (omega arith) (one-below c sound) _ (says-serial c sound) in
+            record { unit = partUnit (c .identity) Parts.Serial; told = tells-serial (c .identity) (sound .identity .0); done = e .done; reply = e .reply };
+      }
+
 pub who-are-you : WhoAreYou
 who-are-you =
     record {
-      rtu =
-          record {
-            objects = λ c sound speaks code object first last r small room enough.
-                let h = in-range code object first last r in
-                let e = says-objects c sound code object first last r in
-                record {
-                  unit = partUnit (c .identity) (Parts.Objects code first last);
-                  told = tells-objects (c .identity) first last (h .1) code (h .0);
-                  done = rtu-done c sound speaks room enough _ (omega arith) (omega arith) _ e;
-                  reply = rtu-reply c sound speaks room enough _ (omega arith) (omega arith) _ e;
-                };
-            serial = λ c sound speaks room enough.
-                record {
-                  unit = partUnit (c .identity) Parts.Serial;
-                  told = tells-serial (c .identity) (sound .identity .0);
-                  done = rtu-done c sound speaks room enough _ (omega arith) (omega arith) _ (says-serial c sound);
-                  reply = rtu-reply c sound speaks room enough _ (omega arith) (omega arith) _ (says-serial c sound);
-                };
-          };
-      ascii =
-          record {
-            objects = λ c sound speaks code object first last r small room enough.
-                let h = in-range code object first last r in
-                let e = says-objects c sound code object first last r in
-                let b = four-below c sound code object (h .2) small in
-                record {
-                  unit = partUnit (c .identity) (Parts.Objects code first last);
-                  told = tells-objects (c .identity) first last (h .1) code (h .0);
-                  done = ascii-done c sound speaks room enough _ (omega arith) (omega arith) b _ e;
-                  reply = ascii-reply c sound speaks room enough _ (omega arith) (omega arith) b _ e;
-                };
-            serial = λ c sound speaks room enough.
-                record {
-                  unit = partUnit (c .identity) Parts.Serial;
-                  told = tells-serial (c .identity) (sound .identity .0);
-                  done = ascii-done c sound speaks room enough _ (omega arith) (omega arith) (one-below c sound) _ (says-serial c sound);
-                  reply = ascii-reply c sound speaks room enough _ (omega arith) (omega arith) (one-below c sound) _ (says-serial c sound);
-                };
-          };
+      rtu = asked 1 rtuOf (λ c sound speaks room enough u some most below part e. record {
+        done = rtu-done c sound speaks room enough u some most part e;
+        reply = rtu-reply c sound speaks room enough u some most part e;
+      });
+      ascii = asked 2 asciiOf (λ c sound speaks room enough u some most below part e. record {
+        done = ascii-done c sound speaks room enough u some most below part e;
+        reply = ascii-reply c sound speaks room enough u some most below part e;
+      });
     }

@@ -4,8 +4,11 @@
 ghost use mathlib.Core.Path.{_≡_};
 ghost use Rattle.identity.specs.Identity.{upTo, objectsAsked};
 
+// How many bytes an identity has.
+pub const LENGTH: usize = 41;
+
 // An identity: the revision's 17 bytes, the model's 8, the serial number's 16. Any bytes are one.
-pub type Identity = [u8; 41];
+pub type Identity = [u8; LENGTH];
 
 // Where the model begins in it, and where the serial number does.
 pub const MODEL: usize = 17;
@@ -18,7 +21,7 @@ pub const LAST_BASIC: u8 = 2;
 pub const LAST_OBJECT: u8 = 6;
 
 // The identity of a card that was given none: spaces.
-pub const BLANK: Identity = [0x20; 41];
+pub const BLANK: Identity = [0x20; LENGTH];
 
 // A part of an identity.
 pub enum Part {

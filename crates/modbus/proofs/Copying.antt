@@ -32,3 +32,10 @@ copy-behind bytes out₀ out at i k h = omega (arith, k .passed)
 
 pub copy-stores : (bytes out₀ out : List ℕ) (at i : ℕ) → Copying bytes out₀ out at i → length bytes ≤ i → out ≡ sets out₀ at bytes
 copy-stores bytes out₀ out at i k h = rw (drop-of-length-le bytes h) at (k .left)
+
+-- ---- what is told and stored in the case k of a choice x is that of x
+pub case-count : {A : Type 0} (bytes : A → List ℕ) (x k : A) (n : ℕ) → x ≡ k → n ≡ length (bytes k) → n ≡ length (bytes x)
+case-count bytes x k n e p = rw e p
+
+pub case-stores : {A : Type 0} (bytes : A → List ℕ) (x k : A) (before now : List ℕ) → x ≡ k → now ≡ sets before 0 (bytes k) → now ≡ sets before 0 (bytes x)
+case-stores bytes x k before now e p = rw e p

@@ -25,13 +25,6 @@ use Rattle.modbus.specs.declared.replies.Answer.the-variants.{Word, Long
 use Rattle.modbus.proofs.Objects.{objects-count, told-short, told-below}
 use Rattle.modbus.proofs.replies.Answer.{the-type}
 
--- a copy of the unit of the case k tells its count and stores it
-pub short-count : (answer k : Answer) (n : ℕ) → answer ≡ k → n ≡ length (shortOf k) → n ≡ length (shortOf answer)
-short-count answer k n e p = rw e p
-
-pub short-stores : (answer k : Answer) (before now : List ℕ) → answer ≡ k → now ≡ sets before 0 (shortOf k) → now ≡ sets before 0 (shortOf answer)
-short-stores answer k before now e p = rw e p
-
 -- an answer that is no part of the identity, by its tag, has its short unit
 abbrev pub Short : Answer → Type 0
 Short answer = OneOf (0 ∷ 1 ∷ 2 ∷ 4 ∷ []) (tagOf the-type answer)
@@ -130,18 +123,18 @@ body-none address unit before now h e =
 
 -- ---- what is told and stored of a part of the identity, or of a short unit, is the answer's: by itself, and behind an address
 module _ (i : Identities.Identity) (answer : Answer) (u : List ℕ) (same : u ≡ unitOf i answer) where
-  told : (n : ℕ) → n ≡ length u → n ≡ length (unitOf i answer)
-  told n e = e ∙ ap length same
+  as-told : (n : ℕ) → n ≡ length u → n ≡ length (unitOf i answer)
+  as-told n e = e ∙ ap length same
 
-  stored : (before now : List ℕ) → now ≡ sets before 0 u → now ≡ sets before 0 (unitOf i answer)
-  stored before now e = e ∙ ap (sets before 0) same
+  as-stored : (before now : List ℕ) → now ≡ sets before 0 u → now ≡ sets before 0 (unitOf i answer)
+  as-stored before now e = e ∙ ap (sets before 0) same
 
-  told-behind : (n : ℕ) → n ≡ length u → n + 1 ≡ suc (length (unitOf i answer))
-  told-behind n e = body-count n (unitOf i answer) (told n e)
+  as-told-behind : (n : ℕ) → n ≡ length u → n + 1 ≡ suc (length (unitOf i answer))
+  as-told-behind n e = body-count n (unitOf i answer) (as-told n e)
 
-  stored-behind : (address : ℕ) (before l : List ℕ) → (length before ≡ 0 → ⊥) → Behind 1 (set before 0 address) u l
+  as-stored-behind : (address : ℕ) (before l : List ℕ) → (length before ≡ 0 → ⊥) → Behind 1 (set before 0 address) u l
       → putMid 1 (length (set before 0 address) - 1) (set before 0 address) l ≡ sets before 0 (address ∷ unitOf i answer)
-  stored-behind address before l some e = headed before (unitOf i answer) l address (omega arith) (stored (midOf 1 (length (set before 0 address) - 1) (set before 0 address)) l e)
+  as-stored-behind address before l some e = headed before (unitOf i answer) l address (omega arith) (as-stored (midOf 1 (length (set before 0 address) - 1) (set before 0 address)) l e)
 
 module _ (i : Identities.Identity) (answer : Answer) (part : Part) (is : answer ≡ Identity part) where
   same : Identities.partUnit i part ≡ unitOf i answer
@@ -149,28 +142,28 @@ module _ (i : Identities.Identity) (answer : Answer) (part : Part) (is : answer 
   same = rw is refl
 
   pub part-told : (n : ℕ) → n ≡ length (Identities.partUnit i part) → n ≡ length (unitOf i answer)
-  part-told = told i answer (Identities.partUnit i part) same
+  part-told = as-told i answer (Identities.partUnit i part) same
 
   pub part-stored : (before now : List ℕ) → now ≡ sets before 0 (Identities.partUnit i part) → now ≡ sets before 0 (unitOf i answer)
-  part-stored = stored i answer (Identities.partUnit i part) same
+  part-stored = as-stored i answer (Identities.partUnit i part) same
 
   pub part-told-behind : (n : ℕ) → n ≡ length (Identities.partUnit i part) → n + 1 ≡ suc (length (unitOf i answer))
-  part-told-behind = told-behind i answer (Identities.partUnit i part) same
+  part-told-behind = as-told-behind i answer (Identities.partUnit i part) same
 
   pub part-stored-behind : (address : ℕ) (before l : List ℕ) → (length before ≡ 0 → ⊥) → Behind 1 (set before 0 address) (Identities.partUnit i part) l
       → putMid 1 (length (set before 0 address) - 1) (set before 0 address) l ≡ sets before 0 (address ∷ unitOf i answer)
-  part-stored-behind = stored-behind i answer (Identities.partUnit i part) same
+  part-stored-behind = as-stored-behind i answer (Identities.partUnit i part) same
 
 module _ (i : Identities.Identity) (answer : Answer) (is : Short answer) where
   pub short-told : (n : ℕ) → n ≡ length (shortOf answer) → n ≡ length (unitOf i answer)
-  short-told = told i answer (shortOf answer) (short-unit i answer is)
+  short-told = as-told i answer (shortOf answer) (short-unit i answer is)
 
   pub short-stored : (before now : List ℕ) → now ≡ sets before 0 (shortOf answer) → now ≡ sets before 0 (unitOf i answer)
-  short-stored = stored i answer (shortOf answer) (short-unit i answer is)
+  short-stored = as-stored i answer (shortOf answer) (short-unit i answer is)
 
   pub short-told-behind : (n : ℕ) → n ≡ length (shortOf answer) → n + 1 ≡ suc (length (unitOf i answer))
-  short-told-behind = told-behind i answer (shortOf answer) (short-unit i answer is)
+  short-told-behind = as-told-behind i answer (shortOf answer) (short-unit i answer is)
 
   pub short-stored-behind : (address : ℕ) (before l : List ℕ) → (length before ≡ 0 → ⊥) → Behind 1 (set before 0 address) (shortOf answer) l
       → putMid 1 (length (set before 0 address) - 1) (set before 0 address) l ≡ sets before 0 (address ∷ unitOf i answer)
-  short-stored-behind = stored-behind i answer (shortOf answer) (short-unit i answer is)
+  short-stored-behind = as-stored-behind i answer (shortOf answer) (short-unit i answer is)

@@ -11,6 +11,7 @@ use Rattle.identity.specs.Identity.{Identity, Object, object, objects, serial, 
 use Rattle.identity.specs.declared.Part.{Part}
 use Rattle.identity.specs.declared.Part.the-variants.{Objects, Serial}
 use Rattle.modbus.proofs.Objects.{told, told-append, objects-count}
+use Rattle.modbus.proofs.Copying.{case-count, case-stores}
 
 -- ---- how many are asked for
 module _ (first last : ℕ) (i : Identity) where
@@ -120,9 +121,9 @@ module _ (i : Identity) (out one two : List ℕ) (a r : ℕ)
   unfolding partUnit serial
   serial-lent = rw (y, h, x) (sym (sets-append (0x11 ∷ 0x10 ∷ []) (take 16 (drop 25 i)) out 0))
 
--- a part of the case k
+-- in the case k
 pub part-count : (i : Identity) (part k : Part) (n : ℕ) → part ≡ k → n ≡ length (partUnit i k) → n ≡ length (partUnit i part)
-part-count i part k n e p = rw e p
+part-count i = case-count (partUnit i)
 
 pub part-stores : (i : Identity) (part k : Part) (before now : List ℕ) → part ≡ k → now ≡ sets before 0 (partUnit i k) → now ≡ sets before 0 (partUnit i part)
-part-stores i part k before now e p = rw e p
+part-stores i = case-stores (partUnit i)

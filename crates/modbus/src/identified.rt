@@ -2,6 +2,7 @@
 use crate::copies::copy_at;
 use identity::Identity;
 use identity::LAST_OBJECT;
+use identity::LENGTH;
 use identity::MODEL;
 use identity::Part;
 use identity::SERIAL;
@@ -32,7 +33,7 @@ fn put_serial(identity: &Identity, out: &mut [u8]) -> usize
     let all: &[u8] = identity;
     let head = [17, 16];
     let at = copy_at(&head, out, 0);
-    copy_at(&all[SERIAL..41], out, at)
+    copy_at(&all[SERIAL..LENGTH], out, at)
 }
 
 // 43: type, identification code, conformity, more follows, next object, how many objects, and these.

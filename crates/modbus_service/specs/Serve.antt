@@ -82,7 +82,7 @@ rowAsked Serial = NoRow
 rowAsked (Malformed function) = NoRow
 rowAsked (Unknown function) = NoRow
 
--- 43 asks for objects, 17 for the serial number
+-- 43 asks for objects, 17 for the serial number, and no other for a part of the identity
 abbrev pub partAsked : Request → Named
 partAsked (Read function first count) = Names.NoObject
 partAsked (One register word) = Names.NoObject
@@ -106,8 +106,8 @@ abbrev pub asksNothing : Request → Bool
 asksNothing request = both (noObject (partAsked request)) (isNone (rowAsked request))
 
 -- ---- the refusals, each with its "When", in the paper's order
--- "1: other address"; "9: unknown function"; "0 is broadcast: .. 03 and 04 are outcome 1", and 43 and 17 too; "8: .. bad length or count"; "2: no such row or register
--- span", "unknown object"
+-- "1: other address"; "9: unknown function"; "0 is broadcast: .. 03 and 04 are outcome 1", and 43 and 17 too; "8: .. bad length or count", "or identification code"; "2: no
+-- such row or register span", "unknown object with code 04"
 abbrev pub unitLines : (station address : ℕ) → Request → List (Line Answer)
 unitLines station address request =
     when (not (reachesUs station address)) Answers.NotOurs
@@ -131,8 +131,8 @@ abbrev pub taskAt : Row → Request → List ℕ → Task
 taskAt row (Read function first count) unit = Tell row
 taskAt row (One register word) unit = Write row word
 taskAt row (Many first count place) unit = Write row (longAt unit (place .from))
-taskAt row (Identify code object) unit = Say (Answers.Identified (thePart (partAsked (Identify code object))))
-taskAt row Serial unit = Say (Answers.Identified (thePart (partAsked Serial)))
+taskAt row (Identify code object) unit = Say (Answers.Identified (thePart (objectsAsked code object)))
+taskAt row Serial unit = Say (Answers.Identified Parts.Serial)
 taskAt row (Malformed function) unit = Tell row
 taskAt row (Unknown function) unit = Tell row
 

@@ -70,18 +70,21 @@ module _ (c : Card) (bytes : List ℕ) (room : ℕ) where
       go false true = omega (arith, ascii-short c bytes room)
       go false false = omega (arith, nfo-short c bytes room)
 
--- a buffer that is long enough, by the protocol
+-- a buffer that is long enough has its protocol's least
+enough : (n : ℕ) (c : Card) (room : ℕ) → protocolOf c ≡ n → LongEnough c room → replyLeast n ≤ room
+enough n c room p h = subst (λ (k : ℕ). replyLeast k ≤ room) p h
+
 pub enough-nfo : (c : Card) (room : ℕ) → protocolOf c ≡ 0 → LongEnough c room → nfoLeast ≤ room
 unfolding replyLeast
-enough-nfo c room p h = subst (λ (n : ℕ). replyLeast n ≤ room) p h
+enough-nfo = enough 0
 
 pub enough-rtu : (c : Card) (room : ℕ) → protocolOf c ≡ 1 → LongEnough c room → rtuLeast ≤ room
 unfolding replyLeast
-enough-rtu c room p h = subst (λ (n : ℕ). replyLeast n ≤ room) p h
+enough-rtu = enough 1
 
 pub enough-ascii : (c : Card) (room : ℕ) → protocolOf c ≡ 2 → LongEnough c room → asciiLeast ≤ room
 unfolding replyLeast
-enough-ascii c room p h = subst (λ (n : ℕ). replyLeast n ≤ room) p h
+enough-ascii = enough 2
 
 -- no protocol's least buffer is longer than that of Modbus ASCII
 pub least-most : (protocol : ℕ) → replyLeast protocol ≤ asciiLeast
