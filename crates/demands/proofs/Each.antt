@@ -1,16 +1,22 @@
--- What holds of each kind of call holds of every call: a short buffer, a frame that is wrong, nothing taken, or a message served. So a call leaves the port's protocol and
--- the identity as they are. Assumes nothing.
+-- What holds of each kind of call holds of every call: a short buffer, a frame that is wrong, nothing taken, or a message served; and so of a tick. So a call leaves the
+-- port's protocol as it is, and every routine the identity. Assumes nothing.
 use mathlib.Core.Path.{_≡_, refl, _∙_}
+use mathlib.Core.Logic.{_≢_}
 use mathlib.Core.List.{List}
-use Prim.Native.Nat.{ℕ}
+use Prim.Native.Nat.{ℕ, _+_}
+use borrow.Author.Tests.{eqb-false}
 use lib.Dec.{eqb, ltb}
-use lib.ListN.{length}
+use lib.ListN.{length, getD}
 use Rattle.base.specs.Buffers.{rtuLeast}
+use Rattle.base.specs.Choice.{either}
 use Rattle.base.proofs.Tests.{pick-both}
+use Rattle.table.specs.Names.{SioTot}
+use Rattle.port.specs.Port.{TimeOut, sum}
 use Rattle.pending.specs.declared.Pending.{Pending}
 use Rattle.pending.specs.Scanning.{Scan, scanFrom}
 use Rattle.service.specs.Serving.{Served}
-use Rattle.card.specs.State.{protocolOf}
+use Rattle.card.specs.State.{Core, coreOf, protocolOf, restarted}
+use Rattle.card.specs.Events.{Ticked, eventOn, faultRaised, causeEnded, din1Set, measuredSet, portFaulted, parityTold, summed, counted, tickedIn, ticked}
 use Rattle.card.specs.declared.state.Card.{Card}
 use Rattle.nfo_parts.specs.declared.message.Message.{Message}
 use Rattle.nfo_service.specs.Serve as Nfo
@@ -23,6 +29,7 @@ use Rattle.nfo_port.specs.Receive.{nfoStream, nfoReceived}
 use Rattle.rtu_port.specs.Receive.{spoilt, rtuReceived}
 use Rattle.ascii_port.specs.Receive.{asciiStream, asciiReceived}
 use Rattle.receive.specs.Receive.{received}
+use Rattle.demands.specs.Calls.{Step, receive, restart, raise, end, din1, measure, parity, tick}
 use Rattle.demands.proofs.Serving.{after-speaks, nfo-speaks, modbus-speaks}
 
 module _ (c : Card) (bytes : List ℕ) (room : ℕ) where
@@ -61,3 +68,26 @@ module _ (c : Card) (bytes : List ℕ) (room : ℕ) where
   pub same-identity : received c bytes room .card .identity ≡ c .identity
   unfolding waiting cardAfter
   same-identity = each (λ (r : Received). r .card .identity ≡ c .identity) refl refl (λ scan. refl) (λ held used m reply. refl) (λ held used a u reply. refl)
+
+-- ---- a tick: it is refused; SioTot is 0, and so is the sum; a time-out happens; or the sum counts
+pub each-tick : (Q : Core → Type 0) (n : ℕ) (c : Card) → Q (coreOf c) → Q (summed 0 (coreOf c)) → Q (portFaulted TimeOut (summed 0 (coreOf c)))
+    → (getD (c .plant) SioTot 0 ≢ 0 → Q (summed (sum (c .port .numbers) + n) (coreOf c))) → Q (coreOf (ticked n c .card))
+unfolding ticked tickedIn counted
+each-tick Q n c refused off out counts =
+    pick-both (λ (t : Ticked). Q (t .core)) (either (ltb n 1) (ltb 250 n)) (λ _. refused)
+    (λ _. pick-both Q (eqb limit 0) (λ _. off) (λ some. pick-both Q (ltb limit (sum (c .port .numbers) + n)) (λ _. out) (λ _. counts (eqb-false limit 0 some))))
+  where
+    limit : ℕ
+    limit = getD (c .plant) SioTot 0
+
+-- ---- every routine leaves the identity as it is
+pub step-identity : (c d : Card) → Step c d → d .identity ≡ c .identity
+unfolding restarted faultRaised causeEnded eventOn din1Set measuredSet parityTold ticked
+step-identity c d (receive bytes room) = same-identity c bytes room
+step-identity c d restart = refl
+step-identity c d (raise n) = refl
+step-identity c d (end n) = refl
+step-identity c d (din1 active) = refl
+step-identity c d (measure measured) = refl
+step-identity c d parity = refl
+step-identity c d (tick n) = refl

@@ -39,7 +39,7 @@ use Rattle.card.specs.declared.state.Protocol as Protocols
 use Rattle.card.specs.declared.outcome.Outcome.the-variants as Outcomes
 use Rattle.turn.specs.Turn.{Received, cardAfter, portAfter}
 use Rattle.receive.specs.Receive.{received}
-use Rattle.demands.specs.Calls.{besides}
+use Rattle.demands.specs.Calls.{receive, besides}
 use Rattle.demands.specs.Kept.{SoundPlant, SoundIdentity, Sound}
 use Rattle.demands.specs.Effects.{Tells, WriteLeaves, StopLeaves, ReadLeaves, InvSt, lowest, manual, auto-stands, auto-runs, bus-stands, bus-runs, Effects}
 use Rattle.demands.proofs.Serving.{Came, not-ours, refused, told-row, wrote-row, identified, stop}
@@ -228,7 +228,7 @@ writes : (c : Card) → Sound c → (bytes : List ℕ) (room : ℕ) (change : Ch
     → (flags (c .plant) ≡ 0 → WriteLeaves c change (received c bytes room .card)) × (flags (c .plant) ≢ 0 → StopLeaves c change (received c bytes room .card))
 writes c sound bytes room change e =
     let k = comes c bytes room (Answers.Written change) e in
-    came-writes c sound (received c bytes room) (kept .receive c bytes room sound) (k .nfo) (k .pending) (k .served) change (k .came)
+    came-writes c sound (received c bytes room) (kept .each c _ (receive bytes room) sound) (k .nfo) (k .pending) (k .served) change (k .came)
     (λ t. let s = k .serial t in let one : protocolOf c ≢ 1 = s .0 in let two : protocolOf c ≢ 2 = s .1 in omega (arith, sound .protocol)) (k .answer) (k .card)
 
 pub effects : Effects
@@ -240,7 +240,7 @@ effects =
       stop = λ c sound bytes room change e. writes c sound bytes room change e .1;
       read = λ c sound bytes room n w e.
           let k = comes c bytes room (Answers.Told (record { 0 = n }) w) e in
-          came-tells c sound (received c bytes room) (kept .receive c bytes room sound) (k .nfo) (k .pending) (k .served) n w (k .came) (k .answer) (k .card);
+          came-tells c sound (received c bytes room) (kept .each c _ (receive bytes room) sound) (k .nfo) (k .pending) (k .served) n w (k .came) (k .answer) (k .card);
       identified = λ c bytes room part e.
           let k = comes c bytes room (Answers.Identified part) e in
           came-identifies c (received c bytes room) (k .nfo) (k .pending) (k .served) part (k .came) (k .answer) (k .card);

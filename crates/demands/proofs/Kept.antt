@@ -2,16 +2,15 @@
 use mathlib.Core.Path.{_≡_, refl, sym, _∙_}
 use mathlib.Core.Bool.{Bool, true, not}
 use mathlib.Core.List.{List, []}
-use Prim.Native.Nat.{ℕ, _+_, _≤_}
+use Prim.Native.Nat.{ℕ, _≤_}
 use native.Mathlib.Omega.{arith}
 use borrow.Author.Tests.{not-false, eqb-true, eqb-false}
 use lib.Dec.{eqb, ltb}
-use lib.ListN.{length, getD, set, length-set}
+use lib.ListN.{length, set, length-set}
 use lib.Seq.{getD-set-same, getD-set-other}
 use Rattle.base.specs.Buffers.{rtuLeast}
-use Rattle.base.specs.Choice.{either}
 use Rattle.base.proofs.Tests.{pick-both}
-use Rattle.table.specs.Names.{SioTot, Inv-St-ack, Inv-St, SioErr}
+use Rattle.table.specs.Names.{Inv-St-ack, Inv-St, SioErr}
 use Rattle.table.specs.declared.labels.Row.{Row}
 use Rattle.identity.specs.Identity.{Identity}
 use Rattle.port.specs.Port.{Numbers, ProtocolAt, Sum, Sioerr, protocol, sum, withSum, withSioerr}
@@ -59,9 +58,10 @@ use Rattle.rtu_port.specs.Receive.{rtuReceived}
 use Rattle.rtu.specs.Rtu.{frameHolds, addressIn, unitIn}
 use Rattle.ascii_port.specs.Receive.{asciiStream, asciiReceived}
 use Rattle.receive.specs.Receive.{received}
-use Rattle.demands.specs.Kept.{SoundPlant, SoundPending, SoundIdentity, Sound, IdentityKept, Kept}
+use Rattle.demands.specs.Calls.{Step, receive, restart, raise, end, din1, measure, parity, tick}
+use Rattle.demands.specs.Kept.{SoundPlant, SoundPending, SoundIdentity, Sound, Kept}
 use Rattle.demands.proofs.Serving.{nfo-each, modbus-each}
-use Rattle.demands.proofs.Each.{same-identity}
+use Rattle.demands.proofs.Each.{each-tick, step-identity}
 use Rattle.demands.proofs.KeptPlant.{Fits, acknowledged-keeps, without14-keeps, stopped-keeps, applied-keeps, raised-keeps, ended-keeps, active-keeps, measured-keeps, fault-keeps, restarted-keeps, started-sound}
 
 -- ---- the port's numbers, for a protocol n
@@ -274,20 +274,15 @@ parity-keeps : (c : Card) → Sound c → Sound (Events.parityTold c .card)
 unfolding Events.parityTold
 parity-keeps c old = core-keeps c _ old (fault-leaves (protocolOf c) 2 (coreOf c) (coreIn c old))
 
--- "While SioTot is 0 the sum is 0": where it counts, SioTot is not 0
-count-leaves : (n tenths : ℕ) (k : Core) → SoundCore n k → SoundCore n (Events.counted (getD (k .plant) SioTot 0) tenths k)
-unfolding Events.counted
-count-leaves n tenths k (fits, port) =
-    pick-both (SoundCore n) (eqb (getD (k .plant) SioTot 0) 0) (λ _. restarts n k (fits .0) port)
-    (λ o. pick-both (SoundCore n) (ltb (getD (k .plant) SioTot 0) (sum (k .port) + tenths)) (λ _. fault-leaves n 1 (Events.summed 0 k) (restarts n k (fits .0) port))
-    (λ _. ((fits .0, λ z. absurd (eqb-false (getD (k .plant) SioTot 0) 0 o z)), sum-set n _ (k .port) port)))
-
--- "12: host event number not allowed" changes nothing
+-- "12: host event number not allowed" changes nothing; "While SioTot is 0 the sum is 0": where it counts, SioTot is not 0
 tick-keeps : (tenths : ℕ) (c : Card) → Sound c → Sound (Events.ticked tenths c .card)
-unfolding Events.ticked Events.tickedIn
+unfolding Events.ticked
 tick-keeps tenths c old =
-    pick-both (λ (t : Events.Ticked). Sound (withCore (t .core) c)) (either (ltb tenths 1) (ltb 250 tenths)) (λ _. old)
-    (λ _. core-keeps c _ old (count-leaves (protocolOf c) tenths (coreOf c) (coreIn c old)))
+    let (fits, port) = coreIn c old in
+    let zero = restarts (protocolOf c) (coreOf c) (fits .0) port in
+    core-keeps c _ old
+    (each-tick (SoundCore (protocolOf c)) tenths c (fits, port) zero (fault-leaves (protocolOf c) 1 (Events.summed 0 (coreOf c)) zero)
+    (λ some. ((fits .0, λ off. absurd (some off)), sum-set (protocolOf c) _ (c .port .numbers) port)))
 
 -- ---- start and restart: nothing is pending, and the sum is 0
 start-keeps : (protocol : Protocols.Protocol) (i : Identity) → SoundIdentity i → Sound (State.started protocol i)
@@ -312,33 +307,17 @@ restart-keeps c old =
       identity = old .identity;
     }
 
--- ---- the identity: every routine hands on the one that it was handed
-identity-kept : IdentityKept
-unfolding State.started State.restarted Events.faultRaised Events.causeEnded Events.eventOn Events.din1Set Events.measuredSet Events.parityTold Events.ticked
-identity-kept =
-    record {
-      start = λ protocol i. refl;
-      restart = λ c. refl;
-      raise = λ n c. refl;
-      end = λ n c. refl;
-      din1 = λ active c. refl;
-      measure = λ measured c. refl;
-      parity = λ c. refl;
-      tick = λ n c. refl;
-      receive = same-identity;
-    }
+-- ---- so does each routine
+each-keeps : (c d : Card) → Step c d → Sound c → Sound d
+each-keeps c d (receive bytes room) old = receive-keeps c old bytes room
+each-keeps c d restart old = restart-keeps c old
+each-keeps c d (raise n) old = raise-keeps n c old
+each-keeps c d (end n) old = end-keeps n c old
+each-keeps c d (din1 active) old = din1-keeps active c old
+each-keeps c d (measure measured) old = measure-keeps measured c old
+each-keeps c d parity old = parity-keeps c old
+each-keeps c d (tick n) old = tick-keeps n c old
 
 pub kept : Kept
-kept =
-    record {
-      start = start-keeps;
-      restart = restart-keeps;
-      raise = raise-keeps;
-      end = end-keeps;
-      din1 = din1-keeps;
-      measure = measure-keeps;
-      parity = parity-keeps;
-      tick = tick-keeps;
-      receive = λ c bytes room old. receive-keeps c old bytes room;
-      identity = identity-kept;
-    }
+unfolding State.started
+kept = record { start = start-keeps; each = each-keeps; identity = record { start = λ protocol i. refl; each = step-identity } }

@@ -22,9 +22,9 @@ pub mod Asking
 pub mod Naming
 pub mod Allowing
 pub mod KeptPlant
+pub mod Each
 pub mod Kept
 pub mod Changing
-pub mod Each
 pub mod Coming
 pub mod Effects
 pub mod Host

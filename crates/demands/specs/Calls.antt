@@ -1,6 +1,7 @@
--- What the statements speak of: the calls that a caller makes of a stream, the two protocols that come as one, and the messages of a stream served one after
--- another. Assumes nothing.
+-- What the statements speak of: the routines one after another, the calls that a caller makes of a stream, the two protocols that come as one, and the messages of a
+-- stream served one after another. Assumes nothing.
 use mathlib.Core.Path.{_≡_}
+use mathlib.Core.Bool.{Bool}
 use mathlib.Core.List.{List, [], _∷_, _++_}
 use Prim.Native.Nat.{ℕ}
 use Rattle.stream.specs.Format.{Format}
@@ -11,12 +12,27 @@ use Rattle.nfo_parts.specs.Parts.{messageOf}
 use Rattle.nfo_service.specs.Reply.{replied}
 use Rattle.ascii.specs.Ascii.{bytesIn, ascii}
 use Rattle.service.specs.Serving.{Served}
-use Rattle.card.specs.State.{protocolOf, withPending}
+use Rattle.drive.specs.declared.events.Measured.{Measured}
+use Rattle.card.specs.State.{protocolOf, withPending, restarted}
+use Rattle.card.specs.Events.{faultRaised, causeEnded, din1Set, measuredSet, parityTold, ticked}
 use Rattle.card.specs.declared.state.Card.{Card}
 use Rattle.turn.specs.Turn.{Received, answered}
 use Rattle.nfo_port.specs.Receive.{servedBy}
 use Rattle.ascii_port.specs.Receive.{exchangeOn, replyOn}
+use Rattle.receive.specs.Receive.{received}
 pub use Rattle.receive.specs.Calls.{LongEnough, Course, Calls, over, call, adding, ended}
+
+-- ---- the routines
+-- `Step c d`: one routine leads from the card c to the card d: a call on bytes, a restart, or an event of the host, whatever comes of it
+pub data Step : Card → Card → Type 0 where
+  receive : {c : Card} (bytes : List ℕ) (room : ℕ) → Step c (received c bytes room .card)
+  restart : {c : Card} → Step c (restarted c)
+  raise : {c : Card} (n : ℕ) → Step c (faultRaised n c .card)
+  end : {c : Card} (n : ℕ) → Step c (causeEnded n c .card)
+  din1 : {c : Card} (active : Bool) → Step c (din1Set active c .card)
+  measure : {c : Card} (measured : Measured) → Step c (measuredSet measured c .card)
+  parity : {c : Card} → Step c (parityTold c .card)
+  tick : {c : Card} (n : ℕ) → Step c (ticked n c .card)
 
 -- ---- the two protocols that come as streams
 -- a protocol that comes as a stream: its number in the port, its format, and what a message comes to: what is served, and the reply

@@ -2,8 +2,8 @@
 -- card that the routines make. Assumes nothing.
 use mathlib.Core.Path.{_≡_}
 use mathlib.Core.Logic.{_⊎_}
-use mathlib.Core.Bool.{Bool, true, not}
-use mathlib.Core.List.{List, []}
+use mathlib.Core.Bool.{true, not}
+use mathlib.Core.List.{[]}
 use Prim.Native.Nat.{ℕ, _^_, _≤_, _<_}
 use lib.Dec.{eqb}
 use lib.ListN.{length, getD}
@@ -17,16 +17,13 @@ use Rattle.drive.specs.Plant as Plants
 use Rattle.drive.specs.Flags.{flagged}
 use Rattle.drive.specs.Faults.{active}
 use Rattle.drive.specs.Events.{isFault}
-use Rattle.drive.specs.declared.events.Measured.{Measured}
 use Rattle.pending.specs.Held.{held}
 use Rattle.pending.specs.Held as Held
-use Rattle.card.specs.State.{started, restarted, protocolOf}
-use Rattle.card.specs.Events.{faultRaised, causeEnded, din1Set, measuredSet, parityTold, ticked}
+use Rattle.card.specs.State.{started, protocolOf}
 use Rattle.card.specs.declared.state.Card.{Card}
 use Rattle.card.specs.declared.state.Protocol as Protocols
-use Rattle.receive.specs.Receive.{received}
 use Rattle.master_reply.specs.Told.{Within}
-use Rattle.demands.specs.Calls.{nfoSerial, modbusAscii, Speaks}
+use Rattle.demands.specs.Calls.{Step, nfoSerial, modbusAscii, Speaks}
 
 -- ---- the plant
 -- "SCMD | 0, 129, 257"
@@ -97,23 +94,9 @@ pub record Sound (c : Card) : Type 0 where
 -- "given at start", "No message changes the identity", and nothing else does
 pub record IdentityKept : Type 0 where
   pub start : (protocol : Protocols.Protocol) (i : Identity) → started protocol i .identity ≡ i
-  pub restart : (c : Card) → restarted c .identity ≡ c .identity
-  pub raise : (n : ℕ) (c : Card) → faultRaised n c .card .identity ≡ c .identity
-  pub end : (n : ℕ) (c : Card) → causeEnded n c .card .identity ≡ c .identity
-  pub din1 : (active : Bool) (c : Card) → din1Set active c .card .identity ≡ c .identity
-  pub measure : (measured : Measured) (c : Card) → measuredSet measured c .card .identity ≡ c .identity
-  pub parity : (c : Card) → parityTold c .card .identity ≡ c .identity
-  pub tick : (n : ℕ) (c : Card) → ticked n c .card .identity ≡ c .identity
-  pub receive : (c : Card) (bytes : List ℕ) (room : ℕ) → received c bytes room .card .identity ≡ c .identity
+  pub each : (c d : Card) → Step c d → d .identity ≡ c .identity
 
 pub record Kept : Type 0 where
   pub start : (protocol : Protocols.Protocol) (i : Identity) → SoundIdentity i → Sound (started protocol i)
-  pub restart : (c : Card) → Sound c → Sound (restarted c)
-  pub raise : (n : ℕ) (c : Card) → Sound c → Sound (faultRaised n c .card)
-  pub end : (n : ℕ) (c : Card) → Sound c → Sound (causeEnded n c .card)
-  pub din1 : (active : Bool) (c : Card) → Sound c → Sound (din1Set active c .card)
-  pub measure : (measured : Measured) (c : Card) → Sound c → Sound (measuredSet measured c .card)
-  pub parity : (c : Card) → Sound c → Sound (parityTold c .card)
-  pub tick : (n : ℕ) (c : Card) → Sound c → Sound (ticked n c .card)
-  pub receive : (c : Card) (bytes : List ℕ) (room : ℕ) → Sound c → Sound (received c bytes room .card)
+  pub each : (c d : Card) → Step c d → Sound c → Sound d
   pub identity : IdentityKept

@@ -1,5 +1,5 @@
 -- What the card owes, stated over its public routines. To be read in this order:
---   Calls     what the statements speak of: calls on a stream, the two protocols that come as one, messages
+--   Calls     what the statements speak of: the routines, calls on a stream, the two protocols that come as one, messages
 --   Kept      what every card is that the routines make
 --   Orders    document 01's orders of refusals
 --   Demand1   numbers: each given exactly then, and what it leaves; bytes used; the host's events; the master's refusals and readers
