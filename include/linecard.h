@@ -118,7 +118,8 @@ static inline void card_start(card *c, uint32_t protocol, const uint8_t identity
     card_start_in(c->port.pending.bytes, &c->port.pending.len, c->port.numbers, c->plant, c->identity, protocol, identity);
 }
 
-/* Restart: the settings, SioTot among them, DIN1, causes, measured numbers and the identity stay; nothing is pending; MbAdr counts from now on. */
+/* Restart: the settings, SioTot among them, DIN1, causes, measured numbers and the identity stay; nothing is pending; MbAdr counts from now on. A SiAdr of 0 or
+ * 95, kept from before these were refused, becomes 1. */
 static inline void card_restart(card *c) { card_restart_in(&c->port.pending.len, c->port.numbers, c->plant); }
 
 /* Fault n is raised, or its cause has ended: 0, or 12 where n is none of 1 to 13 and 16 to 23. */

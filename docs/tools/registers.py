@@ -37,7 +37,7 @@ MEANING = {
     "RegAmp": "regulator's amplification",
     "SiBaud": "16 is 1200 bit/s, 32 2400, 64 4800, 128 9600; only stored",
     "SiProt": "0 is 7 bits, even parity; 1 is 8 bits, none; only stored",
-    "SiAdr": "our address on NFO serial, from the next message on",
+    "SiAdr": "our own address on NFO serial, from the next message on",
     "SioTot": "time-out of the line, 0.1 s; 0 is none",
     "MbAdr": "our address on Modbus, from the next restart on",
     "SpdScl num": "speed scale, numerator",

@@ -440,11 +440,17 @@ static void bytes_from_the_line(void)
     message("NFO, small letters, a write", CARD_NFO, TEXT("\x04!\x02" "E001d=00fa\x03\x29"), CARD_DONE, TEXT("!\x06"), CARD_ACCEL, 250);
     message("NFO, a small prefix", CARD_NFO, TEXT("\x04!e001D\x05"), CARD_NO_ROW, TEXT("!\x15"), CARD_WORDS, 0);
     message("NFO, a value that is not hex", CARD_NFO, TEXT("\x04!\x02" "E001D=00g4\x03\x5D"), CARD_MALFORMED, TEXT("!\x15"), CARD_WORDS, 0);
+    message("NFO, SiAdr 94", CARD_NFO, TEXT("\x04!\x02" "E00A9=005E\x03s"), CARD_DONE, TEXT("!\x06"), CARD_SI_ADR, 94);
+    message("NFO, SiAdr 95", CARD_NFO, TEXT("\x04!\x02" "E00A9=005F\x03p"), CARD_NOT_ALLOWED, TEXT("!\x15"), CARD_WORDS, 0);
+    message("NFO, SiAdr 0", CARD_NFO, TEXT("\x04!\x02" "E00A9=0000\x03\x03"), CARD_NOT_ALLOWED, TEXT("!\x15"), CARD_WORDS, 0);
+    message("NFO, SiAdr 95, to all", CARD_NFO, TEXT("\x04\x7F\x02" "E00A9=005F\x03p"), CARD_NOT_ALLOWED, TEXT(""), CARD_WORDS, 0);
     scraps("case 2, NFO, in scraps", CARD_NFO, TEXT("\x04!E001D\x05"), 3, TEXT("!\x02" "E001D=0032\x03\x0F"));
     scraps("NFO, small letters, in scraps", CARD_NFO, TEXT("\x04!E001d\x05"), 7, TEXT("!\x02" "E001D=0032\x03\x0F"));
 
     message("RTU, a read", CARD_RTU, TEXT("\x01\x03\x02\x94\x00\x01\xC4\x5E"), CARD_DONE, TEXT("\x01\x03\x02\x00\x01\x79\x84"), CARD_WORDS, 0);
     message("RTU, a write", CARD_RTU, TEXT("\x01\x06\x06\xDC\x00\x64\x49\x53"), CARD_DONE, TEXT("\x01\x06\x06\xDC\x00\x64\x49\x53"), CARD_ACCEL, 100);
+    message("RTU, SiAdr 94", CARD_RTU, TEXT("\x01\x06\x07\x00\x00\x5E\x09\x46"), CARD_DONE, TEXT("\x01\x06\x07\x00\x00\x5E\x09\x46"), CARD_SI_ADR, 94);
+    message("RTU, SiAdr 95", CARD_RTU, TEXT("\x01\x06\x07\x00\x00\x5F\xC8\x86"), CARD_NOT_ALLOWED, TEXT("\x01\x86\x03\x02\x61"), CARD_WORDS, 0);
     message("RTU, a wrong span", CARD_RTU, TEXT("\x01\x03\x07\x0C\x00\x01\x45\x7D"), CARD_NO_ROW, TEXT("\x01\x83\x02\xC0\xF1"), CARD_WORDS, 0);
     message("RTU, a wrong CRC", CARD_RTU, TEXT("\x01\x06\x06\xDC\x00\x64\x49\x54"), CARD_BAD_FRAME, TEXT(""), CARD_WORDS, 0);
     message("RTU, no bytes at all", CARD_RTU, TEXT(""), CARD_BAD_FRAME, TEXT(""), CARD_WORDS, 0);
@@ -458,6 +464,55 @@ static void bytes_from_the_line(void)
     message("ASCII, the LRC alone in small letters", CARD_ASCII, TEXT(":010307000001f4\r\n"), CARD_DONE, TEXT(":0103020001F9\r\n"), CARD_WORDS, 0);
     scraps("case 7, ASCII, in scraps", CARD_ASCII, TEXT(":01030294000165\r\n"), 6, TEXT(":0103020001F9\r\n"));
     scraps("ASCII, small letters, in scraps", CARD_ASCII, TEXT(":010307000001f4\r\n"), 14, TEXT(":0103020001F9\r\n"));
+}
+
+/* ---- SiAdr kept from before */
+/* An ENQUIRY of Inv St, 24, by each function, to a card on NFO serial: answered or not, and nothing changes. */
+static void asked_at(card *c, uint8_t address, int answers)
+{
+    const uint8_t ask[] = { 0x04, (uint8_t)(address + 32), 'E', '0', '0', 'E', '9', 0x05 };
+    const char reply[] = { (char)(address + 32), 0x02, 'E', '0', '0', 'E', '9', '=', '0', '0', '1', '8', 0x03, 0x0E };
+    const card right = *c;
+
+    for (enum way way = 0; way < WAYS; way++)
+        call(way, CARD_NFO, c, ask, sizeof ask, 19, answers ? CARD_DONE : CARD_NOT_OURS, sizeof ask, reply, answers ? sizeof reply : 0, &right);
+}
+
+/* "A restart that finds 0 or 95 kept from before puts 1 there", and any other number stays. The card answers to what is there then, and to 0; "95 is broadcast". */
+static void address_kept(uint32_t kept, uint32_t then)
+{
+    card c = fresh(CARD_NFO), d, right;
+
+    part = "SiAdr kept from before";
+    c.plant[CARD_SI_ADR] = kept;
+    d = c;
+    for (uint8_t address = 1; address < 95; address++)
+        asked_at(&c, address, address == kept);
+    asked_at(&c, 0, 1);
+    asked_at(&c, 95, 0);
+    right = c;
+    right.plant[CARD_SI_ADR] = then;
+    part = "SiAdr kept from before, after a restart";
+    card_restart(&c);
+    same_card(&c, &right);
+    card_restart_in(&d.port.pending.len, d.port.numbers, d.plant);
+    same_words(&d, &right);
+    for (uint8_t address = 1; address < 95; address++)
+        asked_at(&c, address, address == then);
+    asked_at(&c, 0, 1);
+    asked_at(&c, 95, 0);
+}
+
+static void addresses_kept(void)
+{
+    address_kept(0, 1);
+    address_kept(95, 1);
+    address_kept(1, 1);
+    address_kept(2, 2);
+    address_kept(94, 94);
+    address_kept(96, 96);
+    address_kept(0x10000, 0x10000);
+    address_kept(UINT32_MAX, UINT32_MAX);
 }
 
 /* ---- who the card is */
@@ -599,6 +654,7 @@ int main(void)
     silence();
     limits();
     bytes_from_the_line();
+    addresses_kept();
     identity_told();
     identity_refused();
     identity_kept();

@@ -328,8 +328,8 @@ def select(parameter, value, address=1):
     return b"\4" + bytes([32 + address]) + b"\2" + text(parameter, value)
 
 
-def reply(parameter, value):
-    return b"\x21\2" + text(parameter, value)
+def reply(parameter, value, address=1):
+    return bytes([32 + address]) + b"\2" + text(parameter, value)
 
 
 ACK, NAK = b"\x21\6", b"\x21\x15"
@@ -375,6 +375,17 @@ def nfo_exchanges():
         (enquiry("E001D", 2) + enquiry("E001D", 95), b"", [1, 1]),
         (select("E001D", 75, 95), b"", [0]),
         (accel, reply("E001D", 75), [0]),
+        # SiAdr is 1 to 94: 95 and 0 are refused, and the card is asked as before
+        (select("E00A9", 95), NAK, [4]),
+        (select("E00A9", 0), NAK, [4]),
+        (select("E00A9", 95, 95), b"", [4]),
+        (enquiry("E00A9"), reply("E00A9", 1), [0]),
+        # at 94 it is asked there, and at 0
+        (select("E00A9", 94), ACK, [0]),
+        (enquiry("E00E9", 94), reply("E00E9", 37, 94), [0]),
+        (enquiry("E00E9"), b"", [1]),
+        (select("E00A9", 1, 0), bytes([32, 6]), [0]),
+        (enquiry("E00A9"), reply("E00A9", 1), [0]),
     ]
 
 

@@ -18,7 +18,8 @@ def register(adi):
 
 
 P_NOM, N_NOM, I_MAGN, ACCEL, RETARD = register(301), register(304), register(306), register(308), register(309)
-R_FIX1, SI_BAUD, SIO_TOT, MB_ADR, SPD_NUM, SPD_DEN = register(313), register(315), register(318), register(319), register(320), register(321)
+R_FIX1, SI_BAUD, SI_ADR, SIO_TOT, MB_ADR = register(313), register(315), register(317), register(318), register(319)
+SPD_NUM, SPD_DEN = register(320), register(321)
 MODE, SCMD, INV_ST_ACK, INV_ST = register(34), register(35), register(38), 0x02A5
 SIO_ERR, FRQ_ACT, I_RMS, OP_TIME = register(323), register(125), register(120), register(39)
 
@@ -225,6 +226,12 @@ def steps(framed):
         writes(ONE, I_MAGN, 999),
         refused(4, ONE, I_MAGN, [1000]),  # I-limt is 1000
         reads(READ, I_MAGN, [999]),
+        # SiAdr is 1 to 94
+        reads(READ, SI_ADR, [1]),
+        refused(4, ONE, SI_ADR, [95]),
+        refused(4, MANY, SI_ADR, [0]),
+        writes(ONE, SI_ADR, 94),
+        reads(INPUT, SI_ADR, [94]),
         # 32 bits, low word first
         reads(READ, SPD_NUM, [1, 0]),
         writes(MANY, SPD_NUM, 0x4240, 0x000F),  # 1000000

@@ -31,7 +31,7 @@ ROWS = {
     "E0052": ("RegAmp", (1, -1), 1),
     "E00A8": ("SiBaud", (16, 32, 64, 128), 128),
     "E00AA": ("SiProt", (0, 1), 0),
-    "E00A9": ("SiAdr", range(0, 96), 1),
+    "E00A9": ("SiAdr", range(1, 95), 1),
     "E00AB": ("SioTot", range(0, 251), 50),
     "E001E": ("Setpoint", lambda card: range(-limit(card), limit(card) + 1), 0),
     "E0029": ("MODE", (1, 2, 3), 1),

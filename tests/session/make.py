@@ -121,7 +121,7 @@ def to_all(draw):
 
 
 def new_address(draw):
-    """SiAdr changes: the acknowledgement comes from the old address, and the old address is answered no more."""
+    """SiAdr changes: the acknowledgement comes from the old address, and the old address is answered no more. Or it is refused: 0 and 95 are no card's own."""
     address = draw.one_of([0, 2, 7, 94, 95, 96])
     return select(1, "E00A9", address) + enquiry(1, "E00A9") + enquiry(address % 96, "E00A9") + select(0, "E00A9", 1) + enquiry(1, "E00A9")
 

@@ -29,8 +29,11 @@ words =
     ∷ tried I-magn 1000 false
     ∷ tried I-limt 100 false
     ∷ tried I-limt 101 true
-    ∷ tried SiAdr 95 true
-    ∷ tried SiAdr 96 false
+    -- "its text, rightly, says 1 to 94. That becomes the allowed range"
+    ∷ tried SiAdr 0 false
+    ∷ tried SiAdr 1 true
+    ∷ tried SiAdr 94 true
+    ∷ tried SiAdr 95 false
     ∷ tried SpdScl-num 1000000 true
     ∷ tried SpdScl-num 0xFFFFFFFF false
     ∷ tried Setpoint 0xFA24 true

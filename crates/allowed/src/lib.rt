@@ -44,7 +44,7 @@ pub fn allows(row: Row, word: u32, by: Bounds) -> bool
         REG_AMP => one_of(1, MINUS_1, MINUS_1, MINUS_1, word),
         SI_BAUD => one_of(16, 32, 64, 128, word),
         SI_PROT => one_of(0, 1, 1, 1, word),
-        SI_ADR => between(0, 95, word),
+        SI_ADR => between(1, 94, word),
         SIO_TOT => between(0, 250, word),
         MB_ADR => between(1, 247, word),
         SPD_SCL_NUM => between(1, 1000000, word),

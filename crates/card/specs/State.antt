@@ -51,7 +51,7 @@ protocolNumber Ascii = 2
 unfoldable pub started : Protocol → Identity → Card
 started protocol i = record { port = record { pending = Held.empty; numbers = fresh (protocolNumber protocol) }; plant = Plants.started; identity = i }
 
--- "Restart keeps rows 301 to 322, DIN1, causes and measured numbers; .. SioErr and sum 0, nothing pending"; "No message changes the identity", nor does
--- a restart
+-- "Restart keeps rows 301 to 322, DIN1, causes and measured numbers; .. SioErr and sum 0, nothing pending", but for a SiAdr of 0 or 95 (`healed`); "No message
+-- changes the identity", nor does a restart
 unfoldable pub restarted : Card → Card
 restarted c = record { port = record { pending = Held.emptied (c .port .pending); numbers = fresh (protocolOf c) }; plant = Plants.restarted (c .plant); identity = c .identity }

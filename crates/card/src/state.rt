@@ -69,7 +69,8 @@ impl Card {
         }
     }
 
-    // The card after a restart: the settings, DIN1, causes, measured numbers and the identity are kept, nothing is pending, and MbAdr counts from now on.
+    // The card after a restart: the settings, DIN1, causes, measured numbers and the identity are kept, nothing is pending, MbAdr counts from now on,
+    // and a SiAdr of 0 or 95 is 1.
     pub fn restart(self) -> Card
         ensures { λ r. ⌜ r ≡ restarted self ⌝ }
     {

@@ -1,4 +1,4 @@
--- What the rows MbAdr, MODE and SCMD allow to be written. Assumes nothing.
+-- What the rows SiAdr, MbAdr, MODE and SCMD allow to be written. Assumes nothing.
 use mathlib.Core.Path.{_≡_, sym, _∙_}
 use mathlib.Core.Logic.{_⊎_, inl, inr}
 use mathlib.Core.Bool.{Bool, true, false, false≢true}
@@ -12,24 +12,28 @@ use lib.Signed.{leZ}
 use Rattle.base.specs.Choice.{pick, both, either}
 use Rattle.base.proofs.Tests.{both-out, either-out, either-false}
 use Rattle.table.specs.Table.{rows, lineAt}
-use Rattle.table.specs.Names.{MbAdr, MODE, SCMD}
+use Rattle.table.specs.Names.{SiAdr, MbAdr, MODE, SCMD}
 use Rattle.allowed.specs.Allowed.{twos, within, member, allows, allowedAt}
 use Rattle.drive.specs.Plant.{Plant}
 use Rattle.permit.specs.Refusals.{allowed}
 use Rattle.master_reply.specs.Told.{Within}
-use Rattle.demands.specs.Kept.{Command}
+use Rattle.demands.specs.Kept.{Command, OwnAddress}
 
--- ---- "MbAdr | 1..247"
--- a word in these limits is that number: a word past 16 bits has none, and one from 8000h on a negative one
-narrow : (w : ℕ) (a b : Bool)
-    → pick a (both (leZ (pos 1) (pick b (pos w) (negsuc (0x8000 + 0x8000 - suc w)))) (leZ (pick b (pos w) (negsuc (0x8000 + 0x8000 - suc w))) (pos 247))) false ≡ true → Within 1 247 w
-narrow w false b h = absurd (false≢true h)
-narrow w true false h = absurd (false≢true h)
-narrow w true true h = let r = both-out (leZ (pos 1) (pos w)) (leZ (pos w) (pos 247)) h in (leb-true 1 w (r .0), leb-true w 247 (r .1))
+-- ---- "SiAdr | 1..94" and "MbAdr | 1..247"
+-- a word in such limits is that number: a word past 16 bits has none, and one from 8000h on a negative one
+narrow : (top w : ℕ) (a b : Bool)
+    → pick a (both (leZ (pos 1) (pick b (pos w) (negsuc (0x8000 + 0x8000 - suc w)))) (leZ (pick b (pos w) (negsuc (0x8000 + 0x8000 - suc w))) (pos top))) false ≡ true → Within 1 top w
+narrow top w false b h = absurd (false≢true h)
+narrow top w true false h = absurd (false≢true h)
+narrow top w true true h = let r = both-out (leZ (pos 1) (pos w)) (leZ (pos w) (pos top)) h in (leb-true 1 w (r .0), leb-true w top (r .1))
+
+pub si-adr : (p : Plant) (w : ℕ) → allowed p SiAdr w ≡ true → OwnAddress w
+unfolding allowed allowedAt lineAt rows allows within twos
+si-adr p w h = narrow 94 w (ltb w 0x10000) (ltb w 0x8000) h
 
 pub mb-adr : (p : Plant) (w : ℕ) → allowed p MbAdr w ≡ true → Within 1 247 w
 unfolding allowed allowedAt lineAt rows allows within twos
-mb-adr p w h = narrow w (ltb w 0x10000) (ltb w 0x8000) h
+mb-adr p w h = narrow 247 w (ltb w 0x10000) (ltb w 0x8000) h
 
 -- ---- "MODE | 1, 2, 3" and "SCMD | 0, 129, 257"
 -- a list of three, the last of which is repeated

@@ -46,7 +46,7 @@ use Rattle.master_request.specs.Ask.{requestUnit}
 use Rattle.master_request.specs.Said.{requestSaid}
 use Rattle.master_reply.specs.Told.{Within}
 use Rattle.master_ascii.proofs.RoundTrip as Texts
-use Rattle.demands.specs.Calls.{LongEnough, Wire, nfoSerial, modbusAscii, Speaks, besides}
+use Rattle.demands.specs.Calls.{LongEnough, Wire, nfoSerial, modbusAscii, Speaks, NothingPending, besides}
 use Rattle.demands.specs.Kept.{Sound}
 use Rattle.demands.specs.Demand1.{TakesIt}
 use Rattle.demands.specs.Effects.{row, AsksRow, to-0, to-SiAdr, rtu, ascii, Tells}
@@ -57,11 +57,16 @@ use Rattle.demands.proofs.Demand2.{requests}
 
 -- ---- a whole message, handed over in one call
 module _ (P : Wire) (S : Stream) (H : Streamed P S) (c : Card) (speaks : Speaks P c) (m : List ℕ) (w : P .format .formed m ≡ true) (room : ℕ) (h : LongEnough c room) where
+  pub taken-alone : NothingPending c → TakesIt P c (record { place = 0; bytes = m }) (received c m room)
+  taken-alone (none, sized) =
+      takes-it P S H c speaks (sized, rw none (empty-viable (P .format) (H .lawful))) m room h (taking 0 m (waiting (0 + length m) []))
+      (rw none (reads-alone (P .format) (H .lawful) (H .theory) m w)) (record { place = 0; bytes = m }) [] refl
+
+-- a card besides the bytes pending has none
+module _ (P : Wire) (S : Stream) (H : Streamed P S) (c : Card) (speaks : Speaks P c) (m : List ℕ) (w : P .format .formed m ≡ true) (room : ℕ) (h : LongEnough c room) where
   whole : TakesIt P (besides c) (record { place = 0; bytes = m }) (received (besides c) m room)
   unfolding held empty
-  whole =
-      takes-it P S H (besides c) speaks (refl, empty-viable (P .format) (H .lawful)) m room h (taking 0 m (waiting (0 + length m) []))
-      (reads-alone (P .format) (H .lawful) (H .theory) m w) (record { place = 0; bytes = m }) [] refl
+  whole = taken-alone P S H (besides c) speaks m w room h (refl, refl)
 
   pub whole-outcome : received (besides c) m room .outcome ≡ Outcomes.Served (P .served c m .answer)
   whole-outcome = whole .outcome ∙ ap (λ s. Outcomes.Served (s .answer)) (sym (H .alone c m .0))
@@ -72,10 +77,10 @@ module _ (P : Wire) (S : Stream) (H : Streamed P S) (c : Card) (speaks : Speaks 
 -- ---- a message that asks for a row tells it
 module _ (p : Plant) (q : Numbers) (n : ℕ) where
   -- what a read of row n tells
-  abbrev tale : Answer
+  abbrev pub tale : Answer
   tale = Answers.Told (record { 0 = n }) (told p q n .word)
 
-  enquiry-told : (adr e : ℕ) → Nfo.toUs p adr ≡ true → rowOfE e ≡ row n → Nfo.served p q (Enquiry adr (Number (record { 0 = e }))) .answer ≡ tale
+  pub enquiry-told : (adr e : ℕ) → Nfo.toUs p adr ≡ true → rowOfE e ≡ row n → Nfo.served p q (Enquiry adr (Number (record { 0 = e }))) .answer ≡ tale
   unfolding Nfo.served Nfo.enquiryServed Nfo.rowNamed toldServed
   enquiry-told adr e us k = rw (us, k)
 
@@ -89,11 +94,11 @@ module _ (p : Plant) (q : Numbers) (n : ℕ) where
       rw (e, k, one, us)
 
 -- ---- "We answer to SiAdr and to 0"
-to-us-0 : (p : Plant) → Nfo.toUs p 32 ≡ true
+pub to-us-0 : (p : Plant) → Nfo.toUs p 32 ≡ true
 unfolding Nfo.toUs
 to-us-0 p = refl
 
-to-us-SiAdr : (p : Plant) → enquirable (getD p SiAdr 0) ≡ true → Nfo.toUs p (getD p SiAdr 0 + 32) ≡ true
+pub to-us-SiAdr : (p : Plant) → enquirable (getD p SiAdr 0) ≡ true → Nfo.toUs p (getD p SiAdr 0 + 32) ≡ true
 unfolding Nfo.toUs
 to-us-SiAdr p h =
     let s : ℕ = getD p SiAdr 0 in

@@ -3,6 +3,7 @@ use Rattle.demands.specs.Demands.{Demands}
 use Rattle.demands.proofs.Kept.{kept}
 use Rattle.demands.proofs.Demand1.{demand-1}
 use Rattle.demands.proofs.Host.{host}
+use Rattle.demands.proofs.Reached.{reached}
 use Rattle.demands.proofs.Silence.{silence-stops}
 use Rattle.demands.proofs.Effects.{effects}
 use Rattle.demands.proofs.Demand2.{demand-2}
@@ -17,6 +18,7 @@ demands =
       kept = kept;
       demand-1 = demand-1;
       host = host;
+      reached = reached;
       silence = silence-stops;
       effects = effects;
       demand-2 = demand-2;

@@ -1,5 +1,5 @@
--- What holds of each kind of call holds of every call: a short buffer, a frame that is wrong, nothing taken, or a message served; and so of a tick. So a call leaves the
--- port's protocol as it is, and every routine the identity. Assumes nothing.
+-- What holds of each kind of call holds of every call: a short buffer, a frame that is wrong, nothing taken, or a message served; and so of a tick. So every routine leaves
+-- the port's protocol and the identity as they are. Assumes nothing.
 use mathlib.Core.Path.{_≡_, refl, _∙_}
 use mathlib.Core.Logic.{_≢_}
 use mathlib.Core.List.{List}
@@ -11,7 +11,7 @@ use Rattle.base.specs.Buffers.{rtuLeast}
 use Rattle.base.specs.Choice.{either}
 use Rattle.base.proofs.Tests.{pick-both}
 use Rattle.table.specs.Names.{SioTot}
-use Rattle.port.specs.Port.{TimeOut, sum}
+use Rattle.port.specs.Port.{Numbers, TimeOut, protocol, sum, withSum}
 use Rattle.pending.specs.declared.Pending.{Pending}
 use Rattle.pending.specs.Scanning.{Scan, scanFrom}
 use Rattle.service.specs.Serving.{Served}
@@ -30,7 +30,7 @@ use Rattle.rtu_port.specs.Receive.{spoilt, rtuReceived}
 use Rattle.ascii_port.specs.Receive.{asciiStream, asciiReceived}
 use Rattle.receive.specs.Receive.{received}
 use Rattle.demands.specs.Calls.{Step, receive, restart, raise, end, din1, measure, parity, tick}
-use Rattle.demands.proofs.Serving.{after-speaks, nfo-speaks, modbus-speaks}
+use Rattle.demands.proofs.Serving.{sum-speaks, sioerr-speaks, after-speaks, nfo-speaks, modbus-speaks}
 
 module _ (c : Card) (bytes : List ℕ) (room : ℕ) where
   -- a message served on this card
@@ -80,7 +80,24 @@ each-tick Q n c refused off out counts =
     limit : ℕ
     limit = getD (c .plant) SioTot 0
 
--- ---- every routine leaves the identity as it is
+-- ---- what every routine leaves as it is
+-- the port's protocol
+pub step-protocol : (c d : Card) → Step c d → protocolOf d ≡ protocolOf c
+unfolding restarted faultRaised causeEnded eventOn din1Set measuredSet parityTold portFaulted
+step-protocol c d (receive bytes room) = same-protocol c bytes room
+step-protocol c d restart = refl
+step-protocol c d (raise n) = refl
+step-protocol c d (end n) = refl
+step-protocol c d (din1 active) = refl
+step-protocol c d (measure measured) = refl
+step-protocol c d parity = sioerr-speaks _ (c .port .numbers)
+step-protocol c d (tick n) =
+    each-tick (λ (k : Core). protocol (k .port) ≡ protocolOf c) n c refl (sum-speaks 0 q) (sioerr-speaks _ (withSum 0 q) ∙ sum-speaks 0 q) (λ _. sum-speaks _ q)
+  where
+    q : Numbers
+    q = c .port .numbers
+
+-- the identity
 pub step-identity : (c d : Card) → Step c d → d .identity ≡ c .identity
 unfolding restarted faultRaised causeEnded eventOn din1Set measuredSet parityTold ticked
 step-identity c d (receive bytes room) = same-identity c bytes room

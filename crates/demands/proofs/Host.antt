@@ -8,15 +8,15 @@ use borrow.Author.Tests.{eq-eqb, ne-eqb, lt-ltb, le-ltb}
 use lib.Bits.{bitOr, bitAnd}
 use lib.ListN.{length, getD, length-set}
 use lib.Seq.{getD-set-same, getD-set-other}
-use Rattle.table.specs.Names.{SioTot, MbAdr, MODE, SCMD}
+use Rattle.table.specs.Names.{SiAdr, SioTot, MbAdr, MODE, SCMD}
 use Rattle.table.specs.Table.{rows, startWords}
 use Rattle.port.specs.Port.{sum, sioerr}
 use Rattle.drive.specs.Plant as Plants
-use Rattle.drive.specs.Plant.{Plant, Flags, Station, mode, causes, flags, withMode, withScmd, withFlags, withStation}
+use Rattle.drive.specs.Plant.{Plant, Sized, Flags, Station, siAdr, mode, causes, flags, withSiAdr, withMode, withScmd, withFlags, withStation, healed}
 use Rattle.drive.specs.Flags.{only, allBut}
 use Rattle.drive.specs.Faults.{flagRaised}
 use Rattle.drive.specs.Events.{isFault, raised, ended, portFault, withActive, withMeasured}
-use Rattle.drive.proofs.Laws.{fault-small}
+use Rattle.drive.proofs.Laws.{fault-small, healed-these, healed-others}
 use Rattle.drive.proofs.Flagging.{put-in, taken-out}
 use Rattle.pending.proofs.Laws.{held-empty, held-emptied}
 use Rattle.identity.specs.Identity.{Identity}
@@ -25,7 +25,7 @@ use Rattle.card.specs.Events.{eventOn, faultRaised, causeEnded, din1Set, measur
 use Rattle.card.specs.declared.state.Card.{Card}
 use Rattle.card.specs.declared.state.Protocol as Protocols
 use Rattle.master_reply.specs.Told.{Within}
-use Rattle.demands.specs.Kept.{PutIn, TakenOut, Sound}
+use Rattle.demands.specs.Kept.{PutIn, TakenOut}
 use Rattle.demands.specs.Host.{RaisesFlag, PortFaultLeaves, AtStart, AfterRestart, Host}
 
 -- ---- faults
@@ -84,13 +84,16 @@ start : (protocol : Protocols.Protocol) (i : Identity) → AtStart protocol (sta
 unfolding started Plants.started startWords rows
 start protocol i = record { speaks = refl; pending = held-empty; sum = refl; din1 = refl; causes = refl; flags = refl }
 
--- a restart sets four numbers, one after the other
-module _ (c : Card) (sound : Sound c) where
+-- ---- a restart sets five numbers, one after the other
+module _ (c : Card) (sized : Sized (c .plant)) where
   abbrev p : Plant
   p = c .plant
 
+  abbrev ours : Plant
+  ours = withStation (getD p MbAdr 0) p
+
   abbrev addressed : Plant
-  addressed = withStation (getD p MbAdr 0) p
+  addressed = withSiAdr (healed (siAdr p)) ours
 
   abbrev reflagged : Plant
   reflagged = withFlags (causes p) addressed
@@ -98,27 +101,41 @@ module _ (c : Card) (sound : Sound c) where
   abbrev halted : Plant
   halted = withScmd 0 reflagged
 
+  ours-long : length ours ≡ 34
+  ours-long = length-set p Station (getD p MbAdr 0) ∙ sized
+
   addressed-long : length addressed ≡ 34
-  addressed-long = length-set p Station (getD p MbAdr 0) ∙ sound .plant .sized
+  addressed-long = length-set ours SiAdr (healed (siAdr p)) ∙ ours-long
 
   reflagged-long : length reflagged ≡ 34
   reflagged-long = length-set addressed Flags (causes p) ∙ addressed-long
 
-  -- a number that is none of them
+  -- a number that is none of the last two, or three
   past : (i : ℕ) → i ≢ MODE → i ≢ SCMD → getD (withMode 1 halted) i 0 ≡ getD reflagged i 0
   past i m s = getD-set-other halted MODE i 1 0 m ∙ getD-set-other reflagged SCMD i 0 0 s
+
+  past-flags : (i : ℕ) → i ≢ MODE → i ≢ SCMD → i ≢ Flags → getD (withMode 1 halted) i 0 ≡ getD addressed i 0
+  past-flags i m s f = past i m s ∙ getD-set-other addressed Flags i (causes p) 0 f
+
+  pub restarted-address : siAdr (restarted c .plant) ≡ healed (siAdr p)
+  unfolding restarted Plants.restarted
+  restarted-address =
+      past-flags SiAdr (λ e. absurd (omega (arith, e))) (λ e. absurd (omega (arith, e))) (λ e. absurd (omega (arith, e)))
+      ∙ getD-set-same ours SiAdr (healed (siAdr p)) 0 (omega (arith, ours-long))
 
   restart : AfterRestart c (restarted c)
   unfolding restarted Plants.restarted
   restart =
       record {
-        keeps = λ i m s f o. past i m s ∙ getD-set-other addressed Flags i (causes p) 0 f ∙ getD-set-other p Station i (getD p MbAdr 0) 0 o;
+        keeps = λ i a m s f o. past-flags i m s f ∙ getD-set-other ours SiAdr i (healed (siAdr p)) 0 a ∙ getD-set-other p Station i (getD p MbAdr 0) 0 o;
+        healed = λ h. restarted-address ∙ healed-these (siAdr p) h;
+        address = λ n m. restarted-address ∙ healed-others (siAdr p) n m;
         flags = past Flags (λ e. absurd (omega (arith, e))) (λ e. absurd (omega (arith, e))) ∙ getD-set-same addressed Flags (causes p) 0 (omega (arith, addressed-long));
         mode = getD-set-same halted MODE 1 0 (omega (arith, length-set reflagged SCMD 0, reflagged-long));
         scmd = getD-set-other halted MODE SCMD 1 0 (λ e. absurd (omega (arith, e))) ∙ getD-set-same reflagged SCMD 0 0 (omega (arith, reflagged-long));
         station =
-            past Station (λ e. absurd (omega (arith, e))) (λ e. absurd (omega (arith, e))) ∙ getD-set-other addressed Flags Station (causes p) 0 (λ e. absurd (omega (arith, e)))
-            ∙ getD-set-same p Station (getD p MbAdr 0) 0 (omega (arith, sound .plant .sized));
+            past-flags Station (λ e. absurd (omega (arith, e))) (λ e. absurd (omega (arith, e))) (λ e. absurd (omega (arith, e)))
+            ∙ getD-set-other ours SiAdr Station (healed (siAdr p)) 0 (λ e. absurd (omega (arith, e))) ∙ getD-set-same p Station (getD p MbAdr 0) 0 (omega (arith, sized));
         speaks = refl;
         pending = held-emptied (c .port .pending);
         sum = refl;

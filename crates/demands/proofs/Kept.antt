@@ -11,13 +11,16 @@ use lib.Seq.{getD-set-same, getD-set-other}
 use Rattle.base.specs.Buffers.{rtuLeast}
 use Rattle.base.proofs.Tests.{pick-both}
 use Rattle.table.specs.Names.{Inv-St-ack, Inv-St, SioErr}
+use Rattle.table.specs.Table.{rows, startWords}
 use Rattle.table.specs.declared.labels.Row.{Row}
 use Rattle.identity.specs.Identity.{Identity}
 use Rattle.port.specs.Port.{Numbers, ProtocolAt, Sum, Sioerr, protocol, sum, withSum, withSioerr}
 use Rattle.drive.specs.Plant.{Plant}
+use Rattle.drive.specs.Plant as Plants
 use Rattle.drive.specs.Faults.{flagStands, without14, stopped}
 use Rattle.drive.specs.Events.{raised, ended, withActive, withMeasured}
 use Rattle.drive.specs.declared.events.Measured.{Measured}
+use Rattle.drive.proofs.Laws.{healed-never}
 use Rattle.answers.specs.declared.Answer.{Answer}
 use Rattle.answers.specs.declared.Answer.the-variants as Answers
 use Rattle.reading.specs.Read.{Told, told}
@@ -62,6 +65,8 @@ use Rattle.demands.specs.Calls.{Step, receive, restart, raise, end, din1
 use Rattle.demands.specs.Kept.{SoundPlant, SoundPending, SoundIdentity, Sound, Kept}
 use Rattle.demands.proofs.Serving.{nfo-each, modbus-each}
 use Rattle.demands.proofs.Each.{each-tick, step-identity}
+use Rattle.demands.proofs.Addressed.{step-own}
+use Rattle.demands.proofs.Host.{restarted-address}
 use Rattle.demands.proofs.KeptPlant.{Fits, acknowledged-keeps, without14-keeps, stopped-keeps, applied-keeps, raised-keeps, ended-keeps, active-keeps, measured-keeps, fault-keeps, restarted-keeps, started-sound}
 
 -- ---- the port's numbers, for a protocol n
@@ -319,5 +324,11 @@ each-keeps c d parity old = parity-keeps c old
 each-keeps c d (tick n) old = tick-keeps n c old
 
 pub kept : Kept
-unfolding State.started
-kept = record { start = start-keeps; each = each-keeps; identity = record { start = λ protocol i. refl; each = step-identity } }
+unfolding State.started Plants.started startWords rows
+kept =
+    record {
+      start = start-keeps;
+      each = each-keeps;
+      identity = record { start = λ protocol i. refl; each = step-identity };
+      address = record { start = λ protocol i. (omega arith, omega arith); each = step-own; restart = λ c sized. rw (restarted-address c sized) (healed-never (Plants.siAdr (c .plant))) };
+    }

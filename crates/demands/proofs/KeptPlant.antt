@@ -14,9 +14,9 @@ use lib.Seq.{getD-set-same, getD-set-other, set-out, set-getD, set-comm}
 use Rattle.base.specs.Choice.{either}
 use Rattle.base.proofs.Tests.{pick-both, both-out, either-out, not-both, below-at}
 use Rattle.table.specs.Table.{rows, startWords}
-use Rattle.table.specs.Names.{SioTot, MbAdr, Mode, Setpoint, MODE, SCMD, FrqAct, I-rms, OpTime}
+use Rattle.table.specs.Names.{SiAdr, SioTot, MbAdr, Mode, Setpoint, MODE, SCMD, FrqAct, I-rms, OpTime}
 use Rattle.port.specs.Port.{Numbers, sum}
-use Rattle.drive.specs.Plant.{Plant, Sized, DIN1, Causes, Flags, Station, mode, scmd, flags, causes, withScmd, started, restarted}
+use Rattle.drive.specs.Plant.{Plant, Sized, DIN1, Causes, Flags, Station, siAdr, mode, scmd, flags, causes, withSiAdr, withScmd, started, healed, restarted}
 use Rattle.drive.specs.Flags.{flagged, only}
 use Rattle.drive.specs.Faults.{active, flagStands, flagRaised, acknowledged, without14, stopped}
 use Rattle.drive.specs.Events.{isFault, Event, raised, ended, portFault, withActive, withMeasured}
@@ -304,11 +304,14 @@ module _ (q : Numbers) where
       ((omega arith, omega arith), λ b. absurd (no-14 (sym (ap (flagged 14) then) ∙ b)))
       (λ r. absurd (r (scmd-0 (set ready Flags (causes p)) (length-set ready Flags (causes p) ∙ ours .0 .sized))))
     where
+      addressed : Plant
+      addressed = set p Station (getD p MbAdr 0)
+
       ready : Plant
-      ready = set p Station (getD p MbAdr 0)
+      ready = withSiAdr (healed (siAdr p)) addressed
 
       ours : Fits ready
-      ours = set-keeps p Station _ keep (keep .0 .address) tt
+      ours = set-keeps addressed SiAdr _ (set-keeps p Station _ keep (keep .0 .address) tt) tt tt
 
       -- 14 has no cause
       no-14 : flagged 14 (causes p) ≡ true → ⊥
@@ -316,7 +319,7 @@ module _ (q : Numbers) where
 
       then : flags (withScmd 0 (set ready Flags (causes p))) ≡ causes p
       then =
-          getD-set-other (set ready Flags (causes p)) SCMD Flags 0 0 (λ h. omega (arith, h)) ∙ getD-set-same ready Flags (causes p) 0 (omega (arith, length-set p Station (getD p MbAdr 0), keep .0 .sized))
+          getD-set-other (set ready Flags (causes p)) SCMD Flags 0 0 (λ h. omega (arith, h)) ∙ getD-set-same ready Flags (causes p) 0 (omega (arith, ours .0 .sized))
 
 -- the column Start
 pub started-sound : SoundPlant started

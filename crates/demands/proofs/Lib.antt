@@ -23,11 +23,13 @@ pub mod Naming
 pub mod Allowing
 pub mod KeptPlant
 pub mod Each
+pub mod Addressed
+pub mod Host
 pub mod Kept
 pub mod Changing
 pub mod Coming
 pub mod Effects
-pub mod Host
+pub mod Reached
 pub mod Silence
 pub mod Identity
 pub mod Cases

@@ -109,10 +109,10 @@ module _ (Q : Served → Type 0) (p : Plant) (q : Numbers) (kept : (a : Answer) 
       go (identified part) = kept (Answers.Identified part)
 
 -- ---- the port's protocol
-sum-speaks : (x : ℕ) (q : Numbers) → protocol (withSum x q) ≡ protocol q
+pub sum-speaks : (x : ℕ) (q : Numbers) → protocol (withSum x q) ≡ protocol q
 sum-speaks x q = getD-set-other q Sum ProtocolAt x 0 (λ e. absurd (omega (arith, e)))
 
-sioerr-speaks : (x : ℕ) (q : Numbers) → protocol (withSioerr x q) ≡ protocol q
+pub sioerr-speaks : (x : ℕ) (q : Numbers) → protocol (withSioerr x q) ≡ protocol q
 sioerr-speaks x q = getD-set-other q Sioerr ProtocolAt x 0 (λ e. absurd (omega (arith, e)))
 
 pub after-speaks : (a : Answer) (q : Numbers) → protocol (portAfter a q) ≡ protocol q

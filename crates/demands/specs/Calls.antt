@@ -34,6 +34,11 @@ pub data Step : Card → Card → Type 0 where
   parity : {c : Card} → Step c (parityTold c .card)
   tick : {c : Card} (n : ℕ) → Step c (ticked n c .card)
 
+-- `Run c d`: any number of them, in any order
+pub data Run : Card → Card → Type 0 where
+  done : {c : Card} → Run c c
+  then : {c d e : Card} → Step c d → Run d e → Run c e
+
 -- ---- the two protocols that come as streams
 -- a protocol that comes as a stream: its number in the port, its format, and what a message comes to: what is served, and the reply
 pub record Wire : Type 0 where

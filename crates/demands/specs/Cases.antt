@@ -1,9 +1,9 @@
 -- Document 01's ★ cases and case 9, the errors that it says to rule out, small letters, an exchange of RTU, a 32-bit row written and read back over ASCII, the
--- time-out that is on from the start, and the card's identity: one table, one statement. "Fresh start, address 1, unless said". Assumes nothing.
+-- time-out that is on from the start, SiAdr at its limits, and the card's identity: one table, one statement. "Fresh start, address 1, unless said". Assumes nothing.
 use mathlib.Core.Path.{_≡_}
 use mathlib.Core.Bool.{true}
 use mathlib.Core.List.{List, [], _∷_, _++_, map}
-use Prim.Native.Nat.{ℕ, zero, suc, _^_}
+use Prim.Native.Nat.{ℕ, zero, suc, _+_, _^_}
 use lib.ListN.{drop}
 use Rattle.base.specs.Buffers.{replyLeast}
 use Rattle.hex.specs.Hex.{hexOf}
@@ -14,7 +14,7 @@ use Rattle.card.specs.declared.state.Protocol.{Protocol}
 use Rattle.card.specs.declared.state.Protocol.the-variants.{Nfo, Rtu, Ascii}
 use Rattle.card.specs.declared.outcome.Outcome.{Outcome}
 use Rattle.card.specs.declared.outcome.Outcome.the-variants.{Done, Served, ShortBuffer, BadFrame, NoSuchEvent, NothingTaken}
-use Rattle.card.specs.State.{protocolOf, started, restarted}
+use Rattle.card.specs.State.{protocolOf, withPlant, started, restarted}
 use Rattle.card.specs.Events.{faultRaised, causeEnded, din1Set, ticked}
 use Rattle.card.specs.Outcome.{outcomeNumber}
 use Rattle.turn.specs.Turn.{Received}
@@ -102,18 +102,18 @@ scmd-129 = 0x04 ∷ 0x21 ∷ 0x02 ∷ 0x45 ∷ 0x30 ∷ 0x30 ∷ 0x41 ∷ 0x44 �
 abbrev pub sio-tot-10 : List ℕ
 sio-tot-10 = 0x04 ∷ 0x21 ∷ 0x02 ∷ 0x45 ∷ 0x30 ∷ 0x30 ∷ 0x41 ∷ 0x42 ∷ 0x3D ∷ 0x30 ∷ 0x30 ∷ 0x30 ∷ 0x41 ∷ 0x03 ∷ 0x09 ∷ []
 
--- ENQUIRY of Inv St, SCMD and SioErr; and of Inv St at the house with address 2
+-- ENQUIRY of Inv St at an address; at ours, 1, of Inv St, SCMD and SioErr
+abbrev pub ask-at : ℕ → List ℕ
+ask-at address = 0x04 ∷ (address + 32) ∷ 0x45 ∷ 0x30 ∷ 0x30 ∷ 0x45 ∷ 0x39 ∷ 0x05 ∷ []
+
 abbrev pub ask-status : List ℕ
-ask-status = 0x04 ∷ 0x21 ∷ 0x45 ∷ 0x30 ∷ 0x30 ∷ 0x45 ∷ 0x39 ∷ 0x05 ∷ []
+ask-status = ask-at 1
 
 abbrev pub ask-scmd : List ℕ
 ask-scmd = 0x04 ∷ 0x21 ∷ 0x45 ∷ 0x30 ∷ 0x30 ∷ 0x41 ∷ 0x44 ∷ 0x05 ∷ []
 
 abbrev pub ask-sio-err : List ℕ
 ask-sio-err = 0x04 ∷ 0x21 ∷ 0x45 ∷ 0x30 ∷ 0x30 ∷ 0x41 ∷ 0x43 ∷ 0x05 ∷ []
-
-abbrev pub ask-house-2 : List ℕ
-ask-house-2 = 0x04 ∷ 0x22 ∷ 0x45 ∷ 0x30 ∷ 0x30 ∷ 0x45 ∷ 0x39 ∷ 0x05 ∷ []
 
 -- REPLY: Inv St 14, 37 and 38, SCMD 0, SioErr 1
 abbrev pub status-14 : List ℕ
@@ -130,6 +130,27 @@ scmd-0 = 0x21 ∷ 0x02 ∷ 0x45 ∷ 0x30 ∷ 0x30 ∷ 0x41 ∷ 0x44 ∷ 0x3D ∷
 
 abbrev pub sio-err-1 : List ℕ
 sio-err-1 = 0x21 ∷ 0x02 ∷ 0x45 ∷ 0x30 ∷ 0x30 ∷ 0x41 ∷ 0x43 ∷ 0x3D ∷ 0x30 ∷ 0x30 ∷ 0x30 ∷ 0x31 ∷ 0x03 ∷ 0x78 ∷ []
+
+-- ---- SiAdr
+-- SELECT SiAdr, up to its value; its values 0, 1, 94 and 95, each with the BCC
+abbrev pub si-adr : List ℕ
+si-adr = 0x04 ∷ 0x21 ∷ 0x02 ∷ 0x45 ∷ 0x30 ∷ 0x30 ∷ 0x41 ∷ 0x39 ∷ 0x3D ∷ []
+
+abbrev pub to-0 : List ℕ
+to-0 = 0x30 ∷ 0x30 ∷ 0x30 ∷ 0x30 ∷ 0x03 ∷ 0x03 ∷ []
+
+abbrev pub to-1 : List ℕ
+to-1 = 0x30 ∷ 0x30 ∷ 0x30 ∷ 0x31 ∷ 0x03 ∷ 0x02 ∷ []
+
+abbrev pub to-94 : List ℕ
+to-94 = 0x30 ∷ 0x30 ∷ 0x35 ∷ 0x45 ∷ 0x03 ∷ 0x73 ∷ []
+
+abbrev pub to-95 : List ℕ
+to-95 = 0x30 ∷ 0x30 ∷ 0x35 ∷ 0x46 ∷ 0x03 ∷ 0x70 ∷ []
+
+-- REPLY from an address: Inv St 24
+abbrev pub status-24 : ℕ → List ℕ
+status-24 address = (address + 32) ∷ 0x02 ∷ 0x45 ∷ 0x30 ∷ 0x30 ∷ 0x45 ∷ 0x39 ∷ 0x3D ∷ 0x30 ∷ 0x30 ∷ 0x31 ∷ 0x38 ∷ 0x03 ∷ 0x0E ∷ []
 
 -- ---- Modbus ASCII
 -- the characters of a message, `:` before and CR LF behind
@@ -180,6 +201,15 @@ ascii m right = record { card = fresh Ascii; events = came m ∷ []; right = sho
 -- a broadcast read, where fault 1 could be acknowledged: outcome 1, no reply, and flag 1 stands
 abbrev pub broadcast-read : Protocol → List ℕ → Case
 broadcast-read protocol m = record { card = faulted protocol; events = came m ∷ []; right = showing (says 1 [] ∷ []) 2 }
+
+-- a card on NFO serial that holds this SiAdr from before: what is said of some bytes, and of others after a restart
+abbrev pub holding : ℕ → (before : List ℕ) → List Said → (after : List ℕ) → List Said → Case
+holding address before said after then =
+    record {
+      card = withPlant (Plant.withSiAdr address (fresh Nfo .plant)) (fresh Nfo);
+      events = came before ∷ restart ∷ came after ∷ [];
+      right = showing (said ++ then) 0;
+    }
 
 -- a fresh card on NFO serial to which MODE 3 is written, and the flags that stand after what comes then
 abbrev pub at-mode-3 : List Event → List Said → ℕ → Case
@@ -250,7 +280,7 @@ cases =
     ∷ at-mode-3 (tick 50 ∷ came ask-status ∷ tick 50 ∷ came ask-status ∷ tick 50 ∷ came ask-status ∷ [])
     (says 0 status-37 ∷ says 0 status-37 ∷ says 0 status-37 ∷ []) 0
     -- "the last taken message of outcome other than 1": one for another house is none of ours
-    ∷ at-mode-3 (tick 50 ∷ came ask-house-2 ∷ tick 1 ∷ []) (says 1 [] ∷ []) (2 ^ 14)
+    ∷ at-mode-3 (tick 50 ∷ came (ask-at 2) ∷ tick 1 ∷ []) (says 1 [] ∷ []) (2 ^ 14)
     -- "Cards restarted with a SioTot of their own keep it": with 10, ten tenths are nothing, and eleven are too long
     ∷ at-mode-3 (came sio-tot-10 ∷ restart ∷ came mode-3 ∷ tick 10 ∷ []) (says 0 ack ∷ says 0 ack ∷ []) 0
     ∷ at-mode-3 (came sio-tot-10 ∷ restart ∷ came mode-3 ∷ tick 11 ∷ []) (says 0 ack ∷ says 0 ack ∷ []) (2 ^ 14)
@@ -263,6 +293,19 @@ cases =
       right =
           showing (says 0 (0x01 ∷ 0x06 ∷ 0x02 ∷ 0x94 ∷ 0x00 ∷ 0x03 ∷ 0x89 ∷ 0x9F ∷ []) ∷ says 0 (0x01 ∷ 0x03 ∷ 0x02 ∷ 0x00 ∷ 0x0E ∷ 0x39 ∷ 0x80 ∷ []) ∷ []) (2 ^ 14);
     }
+    -- "That becomes the allowed range": SiAdr 94 is written, and the card answers to 94 from the next message on, to 0, and no more to 1; 1 is written;
+    ∷ case (si-adr ++ (to-94 ++ (ask-at 94 ++ (ask-at 0 ++ ask-at 1)))) (says 0 ack ∷ says 0 (status-24 94) ∷ says 0 (status-24 0) ∷ says 1 [] ∷ [])
+    ∷ case (si-adr ++ (to-1 ++ ask-at 1)) (says 0 ack ∷ says 0 (status-24 1) ∷ [])
+    -- "Refusals: 4 for 0 and 95", by broadcast and over RTU, too, and the card goes on answering
+    ∷ case (si-adr ++ (to-95 ++ (ask-at 1 ++ ask-at 95))) (says 4 nak ∷ says 0 (status-24 1) ∷ says 1 [] ∷ [])
+    ∷ case (si-adr ++ (to-0 ++ (ask-at 1 ++ ask-at 0))) (says 4 nak ∷ says 0 (status-24 1) ∷ says 0 (status-24 0) ∷ [])
+    ∷ case (0x04 ∷ 0x7F ∷ drop 2 si-adr ++ (to-95 ++ ask-at 1)) (says 4 [] ∷ says 0 (status-24 1) ∷ [])
+    ∷ rtu (0x01 ∷ 0x06 ∷ 0x07 ∷ 0x00 ∷ 0x00 ∷ 0x5F ∷ 0xC8 ∷ 0x86 ∷ []) (says 4 (0x01 ∷ 0x86 ∷ 0x03 ∷ 0x02 ∷ 0x61 ∷ []) ∷ [])
+    -- "A restart that finds 0 or 95 kept from before puts 1 there": the card answers to 1 then, and "0 and 95 keep their meaning on the line"
+    ∷ holding 95 (ask-at 1 ++ (ask-at 95 ++ ask-at 0)) (says 1 [] ∷ says 1 [] ∷ says 0 (status-24 0) ∷ []) (ask-at 1 ++ ask-at 95) (says 0 (status-24 1) ∷ says 1 [] ∷ [])
+    ∷ holding 0 (ask-at 1) (says 1 [] ∷ []) (ask-at 1 ++ ask-at 0) (says 0 (status-24 1) ∷ says 0 (status-24 0) ∷ [])
+    -- and any other number stays
+    ∷ holding 94 (ask-at 94) (says 0 (status-24 94) ∷ []) (ask-at 94 ++ ask-at 1) (says 0 (status-24 94) ∷ says 1 [] ∷ [])
     -- "Who are you?" Over RTU, by function 43, type 14:
     -- code 01, object 00h: up to 02h
     ∷ rtu (0x01 ∷ 0x2B ∷ 0x0E ∷ 0x01 ∷ 0x00 ∷ 0x70 ∷ 0x77 ∷ [])

@@ -2,6 +2,7 @@
 use Rattle.demands.specs.Kept.{Kept}
 use Rattle.demands.specs.Demand1.{Demand1}
 use Rattle.demands.specs.Host.{Host}
+use Rattle.demands.specs.Reached.{Reached}
 use Rattle.demands.specs.Silence.{SilenceStops}
 use Rattle.demands.specs.Effects.{Effects}
 use Rattle.demands.specs.Demand2.{Demand2}
@@ -14,6 +15,7 @@ pub record Demands : Type 0 where
   pub kept : Kept
   pub demand-1 : Demand1
   pub host : Host
+  pub reached : Reached
   pub silence : SilenceStops
   pub effects : Effects
   pub demand-2 : Demand2

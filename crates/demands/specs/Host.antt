@@ -1,15 +1,15 @@
 -- What start, restart and the host's events do, number by number: "Start, restart and each host event hand back the whole state". With 12 nothing changes (Demand1).
 -- Assumes nothing.
 use mathlib.Core.Path.{_≡_}
-use mathlib.Core.Logic.{_≢_}
+use mathlib.Core.Logic.{_⊎_, _≢_}
 use mathlib.Core.Bool.{true, false}
 use mathlib.Core.List.{[]}
 use Prim.Native.Nat.{ℕ, _+_, _≤_, _<_}
 use lib.ListN.{getD, set}
-use Rattle.table.specs.Names.{SioTot, MbAdr, MODE, SCMD, FrqAct, I-rms, OpTime}
+use Rattle.table.specs.Names.{SiAdr, SioTot, MbAdr, MODE, SCMD, FrqAct, I-rms, OpTime}
 use Rattle.identity.specs.Identity.{Identity}
 use Rattle.port.specs.Port.{sum, sioerr, withSioerr}
-use Rattle.drive.specs.Plant.{Plant, Flags, Station, mode, scmd, din1, causes, flags, station, withScmd, withDin1, withCauses, withFlags}
+use Rattle.drive.specs.Plant.{Plant, Sized, Flags, Station, siAdr, mode, scmd, din1, causes, flags, station, withScmd, withDin1, withCauses, withFlags}
 use Rattle.drive.specs.Events.{isFault}
 use Rattle.drive.specs.declared.events.Measured.the-variants.{Frq, Rms, Optime}
 use Rattle.pending.specs.Held.{held}
@@ -18,7 +18,7 @@ use Rattle.card.specs.Events.{faultRaised, causeEnded, din1Set, measuredSet, pa
 use Rattle.card.specs.declared.state.Card.{Card}
 use Rattle.card.specs.declared.state.Protocol as Protocols
 use Rattle.master_reply.specs.Told.{Within}
-use Rattle.demands.specs.Kept.{PutIn, TakenOut, Sound}
+use Rattle.demands.specs.Kept.{PutIn, TakenOut}
 
 -- flag n is raised, and nothing else: "SCMD becomes 0 when .. a fault flag is raised"
 abbrev pub RaisesFlag : ℕ → (before after : Plant) → Type 0
@@ -43,7 +43,10 @@ pub record AtStart (protocol : Protocols.Protocol) (c : Card) : Type 0 where
 
 -- "Restart keeps rows 301 to 322, DIN1, causes and measured numbers; flags become the standing causes; MODE 1, SCMD, SioErr and sum 0, nothing pending"
 pub record AfterRestart (c d : Card) : Type 0 where
-  pub keeps : (i : ℕ) → i ≢ MODE → i ≢ SCMD → i ≢ Flags → i ≢ Station → getD (d .plant) i 0 ≡ getD (c .plant) i 0
+  pub keeps : (i : ℕ) → i ≢ SiAdr → i ≢ MODE → i ≢ SCMD → i ≢ Flags → i ≢ Station → getD (d .plant) i 0 ≡ getD (c .plant) i 0
+  -- "A restart that finds 0 or 95 kept from before puts 1 there"; any other number stays
+  pub healed : (siAdr (c .plant) ≡ 0) ⊎ (siAdr (c .plant) ≡ 95) → siAdr (d .plant) ≡ 1
+  pub address : siAdr (c .plant) ≢ 0 → siAdr (c .plant) ≢ 95 → siAdr (d .plant) ≡ siAdr (c .plant)
   pub flags : flags (d .plant) ≡ causes (c .plant)
   pub mode : mode (d .plant) ≡ 1
   pub scmd : scmd (d .plant) ≡ 0
@@ -56,7 +59,8 @@ pub record AfterRestart (c d : Card) : Type 0 where
 
 pub record Host : Type 0 where
   pub start : (protocol : Protocols.Protocol) (i : Identity) → AtStart protocol (started protocol i)
-  pub restart : (c : Card) → Sound c → AfterRestart c (restarted c)
+  -- of any card at all. (The array's length is what its type tells.)
+  pub restart : (c : Card) → Sized (c .plant) → AfterRestart c (restarted c)
   -- "Faults 1 to 13 and 16 to 23 .. The host raises one (both set)"
   pub raise : (n : ℕ) (c : Card) → isFault n ≡ true
       → (p : Plant) × RaisesFlag n (c .plant) p × ((x : ℕ) × PutIn n (causes (c .plant)) x × (faultRaised n c .card ≡ withPlant (withCauses x p) c))

@@ -1,7 +1,7 @@
 -- What every routine keeps of a card. Start makes such a card, and no event and no bytes make another of it; so what the demands ask of a card holds of every
 -- card that the routines make. Assumes nothing.
 use mathlib.Core.Path.{_≡_}
-use mathlib.Core.Logic.{_⊎_}
+use mathlib.Core.Logic.{_⊎_, _≢_}
 use mathlib.Core.Bool.{true, not}
 use mathlib.Core.List.{[]}
 use Prim.Native.Nat.{ℕ, _^_, _≤_, _<_}
@@ -19,7 +19,7 @@ use Rattle.drive.specs.Faults.{active}
 use Rattle.drive.specs.Events.{isFault}
 use Rattle.pending.specs.Held.{held}
 use Rattle.pending.specs.Held as Held
-use Rattle.card.specs.State.{started, protocolOf}
+use Rattle.card.specs.State.{started, restarted, protocolOf}
 use Rattle.card.specs.declared.state.Card.{Card}
 use Rattle.card.specs.declared.state.Protocol as Protocols
 use Rattle.master_reply.specs.Told.{Within}
@@ -96,7 +96,24 @@ pub record IdentityKept : Type 0 where
   pub start : (protocol : Protocols.Protocol) (i : Identity) → started protocol i .identity ≡ i
   pub each : (c d : Card) → Step c d → d .identity ≡ c .identity
 
+-- ---- SiAdr
+-- an address that a card may have for its own: "NFO's table allows 0 to 95, but its text, rightly, says 1 to 94. That becomes the allowed range"
+abbrev pub OwnAddress : ℕ → Type 0
+OwnAddress address = Within 1 94 address
+
+-- neither 0, to which every card answers, nor 95, which is broadcast
+abbrev pub Healed : ℕ → Type 0
+Healed address = (address ≢ 0) × (address ≢ 95)
+
+-- of any card at all, sound or not. (The array's length is what its type tells.)
+pub record AddressKept : Type 0 where
+  pub start : (protocol : Protocols.Protocol) (i : Identity) → OwnAddress (Plants.siAdr (started protocol i .plant))
+  pub each : (c d : Card) → Step c d → OwnAddress (Plants.siAdr (c .plant)) → OwnAddress (Plants.siAdr (d .plant))
+  -- "A restart that finds 0 or 95 kept from before puts 1 there": after it SiAdr is neither, whatever it was
+  pub restart : (c : Card) → Plants.Sized (c .plant) → Healed (Plants.siAdr (restarted c .plant))
+
 pub record Kept : Type 0 where
   pub start : (protocol : Protocols.Protocol) (i : Identity) → SoundIdentity i → Sound (started protocol i)
   pub each : (c d : Card) → Step c d → Sound c → Sound d
   pub identity : IdentityKept
+  pub address : AddressKept

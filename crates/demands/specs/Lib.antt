@@ -4,6 +4,7 @@
 --   Orders    document 01's orders of refusals
 --   Demand1   numbers: each given exactly then, and what it leaves; bytes used; the host's events; the master's refusals and readers
 --   Host      what start, restart and the host's events do
+--   Reached   a card on NFO serial can be asked, whatever was written to it
 --   Silence   a card at MODE 3 stops by itself when its master is dead
 --   Effects   what a message does, by what a following read tells
 --   Demand2   what the master wrote arrives, and what was answered is heard
@@ -17,6 +18,7 @@ pub mod Kept
 pub mod Orders
 pub mod Demand1
 pub mod Host
+pub mod Reached
 pub mod Silence
 pub mod Effects
 pub mod Demand2

@@ -1,18 +1,18 @@
 -- The rules of the drive, case by case: each law's premises are what the code's tests and its callees showed. Assumes nothing.
 use mathlib.Core.Path.{_≡_, refl, sym, ap, _∙_}
 use mathlib.Core.Bool.{Bool, true, false, not}
-use mathlib.Core.Logic.{⊎-elim}
+use mathlib.Core.Logic.{_⊎_, inl, inr, _≢_, ⊎-elim}
 use Prim.Native.Nat.{ℕ, _-_, _*_, _%_, _^_, _≤_, _<_}
 use native.Mathlib.Nat.{one-mul, mod-eq-of-lt}
 use native.Mathlib.Omega.{arith}
 use lib.Dec.{eqb, leb}
 use lib.Bits.{bitOr, bitAnd}
 use lib.Pow.{pow-lt}
-use borrow.Author.Tests.{ne-eqb, le-leb, lt-leb, leb-true}
+use borrow.Author.Tests.{ne-eqb, eqb-false, le-leb, lt-leb, leb-true}
 use Rattle.base.specs.Choice.{both, either}
-use Rattle.base.proofs.Tests.{both-out, either-out, either-right}
+use Rattle.base.proofs.Tests.{pick-both, both-out, either-out, either-right}
 use Rattle.drive.specs.declared.events.Measured.{Measured}
-use Rattle.drive.specs.Plant.{Plant, mode, scmd, din1, causes, flags, withScmd, withCauses}
+use Rattle.drive.specs.Plant.{Plant, mode, scmd, din1, causes, flags, withScmd, withCauses, healed}
 use Rattle.drive.specs.Flags.{only}
 use Rattle.drive.specs.Faults.{active, flagStands, runs, flagRaised, without14, stopped}
 use Rattle.drive.specs.Events.{isFault, raised, ended, withActive, withMeasured}
@@ -91,6 +91,25 @@ fault-between n a b = simp (le-leb 1 n (omega arith), lt-leb n 13 (omega arith),
 pub fault-past : (n : ℕ) → 24 ≤ n → false ≡ isFault n
 unfolding isFault
 fault-past n a = simp (le-leb 1 n (omega arith), lt-leb n 13 (omega arith), le-leb 16 n (omega arith), lt-leb n 23 (omega arith))
+
+-- ---- SiAdr after a restart: 0 and 95 become 1, any other number stays, and so it is neither
+pub healed-these : (a : ℕ) → (a ≡ 0) ⊎ (a ≡ 95) → healed a ≡ 1
+unfolding healed
+healed-these a (inl e) = simp e
+healed-these a (inr e) = simp e
+
+pub healed-others : (a : ℕ) → a ≢ 0 → a ≢ 95 → healed a ≡ a
+unfolding healed
+healed-others a n m = simp (ne-eqb a 0 n, ne-eqb a 95 m)
+
+pub healed-never : (a : ℕ) → (healed a ≢ 0) × (healed a ≢ 95)
+unfolding healed
+healed-never a =
+    pick-both Neither (eqb a 0) (λ _. (λ e. omega (arith, e), λ e. omega (arith, e)))
+    (λ n. pick-both Neither (eqb a 95) (λ _. (λ e. omega (arith, e), λ e. omega (arith, e))) (λ m. (eqb-false a 0 n, eqb-false a 95 m)))
+  where
+    Neither : ℕ → Type 0
+    Neither x = (x ≢ 0) × (x ≢ 95)
 
 -- ---- the broadcast stop: flag 14 is cleared, and then SCMD is 0
 pub stopped-then : (p q : Plant) → q ≡ without14 p → withScmd 0 q ≡ stopped p

@@ -6,7 +6,7 @@ use Prim.Native.Nat.{ℕ}
 use lib.ListN.{getD, set}
 use Rattle.table.specs.Names.{SioTot}
 use Rattle.table.specs.Table.{rows, startWords}
-use Rattle.drive.specs.Plant.{Plant, scmd, withMode, withScmd, started, restarted}
+use Rattle.drive.specs.Plant.{Plant, siAdr, scmd, withSiAdr, withMode, withScmd, started, healed, restarted}
 use Rattle.drive.specs.Flags.{flagged, lowestFrom, lowestOf}
 use Rattle.drive.specs.Faults.{active, flagStands, runs, statusOf, flagRaised, without14, stopped}
 use Rattle.drive.specs.Events.{isFault, raised, ended, portFault, withActive}
@@ -51,8 +51,13 @@ cases =
     -- SioTot: "The start number becomes 50"; "Cards restarted with a SioTot of their own keep it"
     ∷ (getD started SioTot 0, 50)
     ∷ (getD (restarted (set started SioTot 10)) SioTot 0, 10)
+    -- SiAdr: "A restart that finds 0 or 95 kept from before puts 1 there"; any other number stays
+    ∷ (siAdr (restarted (withSiAdr 0 started)), 1)
+    ∷ (siAdr (restarted (withSiAdr 95 started)), 1)
+    ∷ (siAdr (restarted (withSiAdr 94 started)), 94)
+    ∷ (siAdr (restarted (withSiAdr 96 started)), 96)
     ∷ []
 
 pub cases-hold : map (λ (c : ℕ × ℕ). c .0) cases ≡ map (λ (c : ℕ × ℕ). c .1) cases
-unfolding rows startWords started restarted flagged lowestFrom lowestOf active flagStands runs statusOf flagRaised without14 stopped isFault raised ended portFault withActive
+unfolding rows startWords started healed restarted flagged lowestFrom lowestOf active flagStands runs statusOf flagRaised without14 stopped isFault raised ended portFault withActive
 cases-hold = refl

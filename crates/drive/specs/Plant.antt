@@ -3,8 +3,10 @@
 use mathlib.Core.Path.{_≡_}
 use mathlib.Core.List.{List, [], _∷_, _++_}
 use Prim.Native.Nat.{ℕ, _+_}
+use lib.Dec.{eqb}
 use lib.ListN.{length, getD, set}
-use Rattle.table.specs.Names.{MbAdr, MODE, SCMD, rowCount}
+use Rattle.base.specs.Choice.{pick}
+use Rattle.table.specs.Names.{SiAdr, MbAdr, MODE, SCMD, rowCount}
 use Rattle.table.specs.Table.{startWords}
 
 abbrev pub Plant : Type 0
@@ -29,6 +31,9 @@ abbrev pub Sized : Plant → Type 0
 Sized p = length p ≡ rowCount + 4
 
 -- ---- a number of the plant
+abbrev pub siAdr : Plant → ℕ
+siAdr p = getD p SiAdr 0
+
 abbrev pub mode : Plant → ℕ
 mode p = getD p MODE 0
 
@@ -48,6 +53,9 @@ abbrev pub station : Plant → ℕ
 station p = getD p Station 0
 
 -- ---- the plant with one number changed, and all else as it was
+abbrev pub withSiAdr : ℕ → Plant → Plant
+withSiAdr x p = set p SiAdr x
+
 abbrev pub withMode : ℕ → Plant → Plant
 withMode x p = set p MODE x
 
@@ -70,7 +78,11 @@ withStation x p = set p Station x
 unfoldable pub started : Plant
 started = startWords ++ (0 ∷ 0 ∷ 0 ∷ getD startWords MbAdr 0 ∷ [])
 
--- "Restart keeps rows 301 to 322, DIN1, causes and measured numbers; flags become the standing causes; MODE 1, SCMD .. 0"; "ours is what MbAdr held at
--- the last start or restart"
+-- "A restart that finds 0 or 95 kept from before puts 1 there": SiAdr after a restart
+unfoldable pub healed : ℕ → ℕ
+healed address = pick (eqb address 0) 1 (pick (eqb address 95) 1 address)
+
+-- "Restart keeps rows 301 to 322, DIN1, causes and measured numbers", but for a SiAdr of 0 or 95; "flags become the standing causes; MODE 1, SCMD .. 0";
+-- "ours is what MbAdr held at the last start or restart"
 unfoldable pub restarted : Plant → Plant
-restarted p = withMode 1 (withScmd 0 (withFlags (causes p) (withStation (getD p MbAdr 0) p)))
+restarted p = withMode 1 (withScmd 0 (withFlags (causes p) (withSiAdr (healed (siAdr p)) (withStation (getD p MbAdr 0) p))))

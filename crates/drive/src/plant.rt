@@ -3,8 +3,9 @@ use table::names::MB_ADR;
 use table::names::MODE;
 use table::names::ROWS;
 use table::names::SCMD;
+use table::names::SI_ADR;
 ghost use mathlib.Core.Path.{_≡_};
-ghost use Rattle.drive.specs.Plant.{started, restarted};
+ghost use Rattle.drive.specs.Plant.{started, healed, restarted};
 
 // Each row's word, two's complement, at its line in the table, and behind the rows the numbers that are no rows. Any words are a plant. The lines of Inv
 // St, which is worked out, and of SioErr, which is the port's, hold nothing.
@@ -67,12 +68,27 @@ pub fn start() -> Plant
     START
 }
 
-// The plant after a restart: MODE 1, SCMD 0, the flags of the standing causes, and MbAdr counts from now on. The rest is kept.
+// SiAdr after a restart: 1 where 0 or 95 was kept from before, for 0 is every card's address and 95 is broadcast. Any other number stays.
+fn heal(address: u32) -> u32
+    ensures { λ r. ⌜ r ≡ healed address ⌝ }
+{
+    if address == 0 {
+        return 1;
+    }
+    if address == 95 {
+        return 1;
+    }
+    address
+}
+
+// The plant after a restart: MODE 1, SCMD 0, the flags of the standing causes, MbAdr counts from now on, and a SiAdr of 0 or 95 becomes 1. The rest is kept.
 pub fn restart(plant: &mut Plant)
     ensures { λ _. ⌜ now (plant .exit) ≡ restarted (now (plant .entry)) ⌝ }
 {
     let causes = plant[CAUSES];
+    let address = heal(plant[SI_ADR]);
     plant[STATION] = plant[MB_ADR];
+    plant[SI_ADR] = address;
     plant[FLAGS] = causes;
     plant[SCMD] = 0;
     plant[MODE] = 1;

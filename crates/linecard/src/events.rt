@@ -44,7 +44,7 @@ pub extern "C" fn card_start_in(
     *identity = *given;
 }
 
-// The card restarts. The array of the bytes pending stays as it is; there are none in it then.
+// The card restarts, and a SiAdr of 0 or 95 becomes 1. The array of the bytes pending stays as it is; there are none in it then.
 #[no_mangle]
 pub extern "C" fn card_restart_in(len: &mut usize, port: &mut Numbers, plant: &mut Plant)
     ensures { λ _. ⌜ Restarts (now (len .entry)) (now (port .entry)) (now (plant .entry)) (now (len .exit)) (now (port .exit)) (now (plant .exit)) ⌝ }

@@ -78,7 +78,7 @@ rows =
     ∷ row RegAmp (E 0x0052) (ADI 314) 1 (these (pos 1 ∷ negℤ (pos 1) ∷ [])) Run (Word 1)
     ∷ row SiBaud (E 0x00A8) (ADI 315) 1 (these (pos 16 ∷ pos 32 ∷ pos 64 ∷ pos 128 ∷ [])) Run (Word 128)
     ∷ row SiProt (E 0x00AA) (ADI 316) 1 (these (pos 0 ∷ pos 1 ∷ [])) Run (Word 0)
-    ∷ row SiAdr (E 0x00A9) (ADI 317) 1 (between 0 95) Run (Word 1)
+    ∷ row SiAdr (E 0x00A9) (ADI 317) 1 (between 1 94) Run (Word 1)
     ∷ row SioTot (E 0x00AB) (ADI 318) 1 (between 0 250) Run (Word 50)
     ∷ row MbAdr no-E (ADI 319) 1 (between 1 247) Run (Word 1)
     ∷ row SpdScl-num no-E (ADI 320) 2 (between 1 1000000) Run (Word 1)

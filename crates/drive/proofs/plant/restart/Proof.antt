@@ -1,6 +1,5 @@
--- `drive::restart` meets its contract. Assumes nothing.
+-- `drive::restart` meets its contract: SiAdr is what `heal` made of it. Assumes nothing.
 use borrow.Author.Needs.{needs}
-use mathlib.Core.Path.{refl}
 use Rattle.drive.specs.Plant.{restarted}
 use Rattle.drive.proofs.plant.restart.Statement.{statement}
 use Rattle.drive.proofs.plant.restart.Tie as tie
@@ -16,4 +15,7 @@ restart-spec =
     (λ c. search needs)
     (λ c. search needs)
     (λ c. search needs)
-    (λ c. refl))
+    (λ c. search needs)
+    (λ c. search needs)
+    (λ c. search needs)
+    (λ c. rw (c .before .heal .ensures)))
