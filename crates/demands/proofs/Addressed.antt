@@ -5,7 +5,7 @@ use mathlib.Core.Bool.{Bool, true, false, not}
 use mathlib.Core.List.{List}
 use Prim.Native.Nat.{ℕ, _≤_, _<_}
 use native.Mathlib.Omega.{arith}
-use borrow.Author.Tests.{not-false, eqb-false}
+use borrow.Author.Tests.{not-false}
 use lib.Dec.{eqb, ltb}
 use lib.ListN.{getD, set}
 use Rattle.base.proofs.Tests.{pick-both}
@@ -14,6 +14,7 @@ use Rattle.table.specs.declared.labels.Row.{Row}
 use Rattle.port.specs.Port.{Numbers}
 use Rattle.drive.specs.Plant.{Plant, DIN1, Causes, Flags, Station, siAdr, mode, withSiAdr, withStation, healed}
 use Rattle.drive.specs.Plant as Plants
+use Rattle.drive.proofs.Laws.{healed-both}
 use Rattle.drive.specs.Faults.{flagStands, flagRaised, acknowledged, without14, stopped}
 use Rattle.drive.specs.Events.{isFault, Event, raised, ended, portFault, withActive, withMeasured}
 use Rattle.drive.specs.declared.events.Measured.{Measured}
@@ -30,18 +31,18 @@ use Rattle.card.specs.declared.state.Card.{Card}
 use Rattle.turn.specs.Turn.{Received, waiting, cardAfter}
 use Rattle.receive.specs.Receive.{received}
 use Rattle.demands.specs.Calls.{Step, receive, restart, raise, end, din1, measure, parity, tick, Run, done, then}
-use Rattle.demands.specs.Kept.{OwnAddress}
+use Rattle.demands.specs.Kept.{OwnAddress, Healed}
 use Rattle.demands.proofs.Allowing.{si-adr}
 use Rattle.demands.proofs.Serving.{nfo-each, modbus-each}
 use Rattle.demands.proofs.Each.{each, each-tick}
 use Rattle.demands.proofs.KeptPlant.{at-name}
 
--- an address of the line, healed, is one that a card may have for its own
+-- SiAdr after a restart is neither 0 nor 95; and an address of the line is one then that a card may have for its own
+pub healed-never : (a : ℕ) → Healed (healed a)
+healed-never a = healed-both Healed a (λ e. omega (arith, e), λ e. omega (arith, e)) (λ n m. (n, m))
+
 pub healed-own : (a : ℕ) → a ≤ 95 → OwnAddress (healed a)
-unfolding healed
-healed-own a most =
-    pick-both OwnAddress (eqb a 0) (λ _. (omega arith, omega arith))
-    (λ n. pick-both OwnAddress (eqb a 95) (λ _. (omega arith, omega arith)) (λ m. (omega (arith, eqb-false a 0 n), omega (arith, most, eqb-false a 95 m))))
+healed-own a most = healed-both OwnAddress a (omega arith, omega arith) (λ n m. (omega (arith, n), omega (arith, most, m)))
 
 stays-own : (a : ℕ) → OwnAddress a → OwnAddress (healed a)
 stays-own a own = healed-own a (omega (arith, own .1))

@@ -6,15 +6,14 @@ use Prim.Native.Nat.{ℕ, _+_, _<_}
 use native.Mathlib.Omega.{arith}
 use borrow.Author.Tests.{eq-eqb, ne-eqb}
 use lib.Dec.{eqb}
-use lib.ListN.{length, getD}
+use lib.ListN.{length}
 use Rattle.base.proofs.Tests.{either-right}
 use Rattle.stream.specs.Reading.{waiting, taking}
 use Rattle.stream.proofs.Reading.{empty-viable}
-use Rattle.table.specs.Names.{SiAdr}
 use Rattle.table.specs.Find.{rowOfE, rowOfSpan}
 use Rattle.table.specs.declared.labels.Register.{Register}
 use Rattle.port.specs.Port.{Numbers}
-use Rattle.drive.specs.Plant.{Plant, station}
+use Rattle.drive.specs.Plant.{Plant, siAdr, station}
 use Rattle.answers.specs.declared.Answer.{Answer}
 use Rattle.answers.specs.declared.Answer.the-variants as Answers
 use Rattle.reading.specs.Read.{told}
@@ -56,23 +55,24 @@ use Rattle.demands.proofs.Taking.{reads-alone}
 use Rattle.demands.proofs.Demand2.{requests}
 
 -- ---- a whole message, handed over in one call
-module _ (P : Wire) (S : Stream) (H : Streamed P S) (c : Card) (speaks : Speaks P c) (m : List ℕ) (w : P .format .formed m ≡ true) (room : ℕ) (h : LongEnough c room) where
-  pub taken-alone : NothingPending c → TakesIt P c (record { place = 0; bytes = m }) (received c m room)
-  taken-alone (none, sized) =
+module _ (P : Wire) (S : Stream) (H : Streamed P S) where
+  pub taken-alone : (c : Card) → Speaks P c → NothingPending c → (m : List ℕ) → P .format .formed m ≡ true → (room : ℕ) → LongEnough c room
+      → TakesIt P c (record { place = 0; bytes = m }) (received c m room)
+  taken-alone c speaks (none, sized) m w room h =
       takes-it P S H c speaks (sized, rw none (empty-viable (P .format) (H .lawful))) m room h (taking 0 m (waiting (0 + length m) []))
       (rw none (reads-alone (P .format) (H .lawful) (H .theory) m w)) (record { place = 0; bytes = m }) [] refl
 
--- a card besides the bytes pending has none
-module _ (P : Wire) (S : Stream) (H : Streamed P S) (c : Card) (speaks : Speaks P c) (m : List ℕ) (w : P .format .formed m ≡ true) (room : ℕ) (h : LongEnough c room) where
-  whole : TakesIt P (besides c) (record { place = 0; bytes = m }) (received (besides c) m room)
-  unfolding held empty
-  whole = taken-alone P S H (besides c) speaks m w room h (refl, refl)
+  -- the card besides the bytes pending
+  module _ (c : Card) (speaks : Speaks P c) (m : List ℕ) (w : P .format .formed m ≡ true) (room : ℕ) (h : LongEnough c room) where
+    whole : TakesIt P (besides c) (record { place = 0; bytes = m }) (received (besides c) m room)
+    unfolding held empty
+    whole = taken-alone (besides c) speaks (refl, refl) m w room h
 
-  pub whole-outcome : received (besides c) m room .outcome ≡ Outcomes.Served (P .served c m .answer)
-  whole-outcome = whole .outcome ∙ ap (λ s. Outcomes.Served (s .answer)) (sym (H .alone c m .0))
+    pub whole-outcome : received (besides c) m room .outcome ≡ Outcomes.Served (P .served c m .answer)
+    whole-outcome = whole .outcome ∙ ap (λ s. Outcomes.Served (s .answer)) (sym (H .alone c m .0))
 
-  pub whole-reply : received (besides c) m room .reply ≡ P .reply c m
-  whole-reply = whole .reply ∙ sym (H .alone c m .1)
+    pub whole-reply : received (besides c) m room .reply ≡ P .reply c m
+    whole-reply = whole .reply ∙ sym (H .alone c m .1)
 
 -- ---- a message that asks for a row tells it
 module _ (p : Plant) (q : Numbers) (n : ℕ) where
@@ -98,10 +98,10 @@ pub to-us-0 : (p : Plant) → Nfo.toUs p 32 ≡ true
 unfolding Nfo.toUs
 to-us-0 p = refl
 
-pub to-us-SiAdr : (p : Plant) → enquirable (getD p SiAdr 0) ≡ true → Nfo.toUs p (getD p SiAdr 0 + 32) ≡ true
+pub to-us-SiAdr : (p : Plant) → enquirable (siAdr p) ≡ true → Nfo.toUs p (siAdr p + 32) ≡ true
 unfolding Nfo.toUs
 to-us-SiAdr p h =
-    let s : ℕ = getD p SiAdr 0 in
+    let s : ℕ = siAdr p in
     let one : eqb (s + 32) 127 ≡ false = ne-eqb (s + 32) 127 (λ e. absurd (omega (arith, e, enquirable-is s h))) in
     rw one (either-right (eqb (s + 32) 32) (eqb (s + 32) (s + 32)) (eq-eqb (s + 32) (s + 32) refl))
 
@@ -129,7 +129,7 @@ module _ (c : Card) (sound : Sound c) (n : ℕ) where
   pub tells : Tells c n (told p q n .word)
   unfolding exchanged enquirable
   tells m (to-0 e speaks h k) room l = by-enquiry 0 e speaks refl h (to-us-0 p) k room l
-  tells m (to-SiAdr e speaks can h k) room l = by-enquiry (getD p SiAdr 0) e speaks can h (to-us-SiAdr p can) k room l
+  tells m (to-SiAdr e speaks can h k) room l = by-enquiry (siAdr p) e speaks can h (to-us-SiAdr p can) k room l
   tells m (rtu ask speaks can k) room l =
       let r = requests .rtu (station p) ask [] can in
       let f : List ℕ = rtuOf (station p) (requestUnit ask []) in

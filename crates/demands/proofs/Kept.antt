@@ -20,7 +20,6 @@ use Rattle.drive.specs.Plant as Plants
 use Rattle.drive.specs.Faults.{flagStands, without14, stopped}
 use Rattle.drive.specs.Events.{raised, ended, withActive, withMeasured}
 use Rattle.drive.specs.declared.events.Measured.{Measured}
-use Rattle.drive.proofs.Laws.{healed-never}
 use Rattle.answers.specs.declared.Answer.{Answer}
 use Rattle.answers.specs.declared.Answer.the-variants as Answers
 use Rattle.reading.specs.Read.{Told, told}
@@ -65,7 +64,7 @@ use Rattle.demands.specs.Calls.{Step, receive, restart, raise, end, din1
 use Rattle.demands.specs.Kept.{SoundPlant, SoundPending, SoundIdentity, Sound, Kept}
 use Rattle.demands.proofs.Serving.{nfo-each, modbus-each}
 use Rattle.demands.proofs.Each.{each-tick, step-identity}
-use Rattle.demands.proofs.Addressed.{step-own}
+use Rattle.demands.proofs.Addressed.{healed-never, step-own}
 use Rattle.demands.proofs.Host.{restarted-address}
 use Rattle.demands.proofs.KeptPlant.{Fits, acknowledged-keeps, without14-keeps, stopped-keeps, applied-keeps, raised-keeps, ended-keeps, active-keeps, measured-keeps, fault-keeps, restarted-keeps, started-sound}
 

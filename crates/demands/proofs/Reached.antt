@@ -11,7 +11,6 @@ use Rattle.table.specs.Names.{Inv-St}
 use Rattle.table.specs.Table.{rows}
 use Rattle.table.specs.Find.{firstRow, rowOfE}
 use Rattle.drive.specs.Plant.{siAdr}
-use Rattle.drive.proofs.Laws.{healed-never}
 use Rattle.card.specs.State.{protocolOf, restarted}
 use Rattle.card.specs.Outcome.{outcomeNumber}
 use Rattle.card.specs.declared.state.Card.{Card}
@@ -33,7 +32,7 @@ use Rattle.demands.specs.Kept.{OwnAddress, Healed}
 use Rattle.demands.specs.Demand1.{TakesIt}
 use Rattle.demands.specs.Reached.{AnswersTo, Reached}
 use Rattle.demands.proofs.Allowing.{si-adr}
-use Rattle.demands.proofs.Addressed.{healed-own, run-at, run-own}
+use Rattle.demands.proofs.Addressed.{healed-never, healed-own, run-at, run-own}
 use Rattle.demands.proofs.Asking.{tale, taken-alone, enquiry-told, to-us-0, to-us-SiAdr}
 use Rattle.demands.proofs.Each.{step-protocol}
 use Rattle.demands.proofs.Host.{restarted-address}
@@ -69,7 +68,7 @@ module _ (d : Card) (speaks : Speaks nfoSerial d) (a : ℕ) (low : a < 95) (us :
   taken : (room : ℕ) → 19 ≤ room → NothingPending d → TakesIt nfoSerial d (record { place = 0; bytes = enquiryOf a 0xE9 }) (received d (enquiryOf a 0xE9) room)
   unfolding replyLeast
   taken room enough none =
-      taken-alone nfoSerial nfoStream nfo-streamed d speaks (enquiryOf a 0xE9) (enquiry-formed a 0xE9 (omega (arith, low))) room (rw speaks enough) none
+      taken-alone nfoSerial nfoStream nfo-streamed d speaks none (enquiryOf a 0xE9) (enquiry-formed a 0xE9 (omega (arith, low))) room (rw speaks enough)
 
   answers-at : AnswersTo d a
   unfolding enquiryOf digitsOf hexOf digitOf

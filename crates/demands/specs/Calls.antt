@@ -3,7 +3,7 @@
 use mathlib.Core.Path.{_≡_}
 use mathlib.Core.Bool.{Bool}
 use mathlib.Core.List.{List, [], _∷_, _++_}
-use Prim.Native.Nat.{ℕ}
+use Prim.Native.Nat.{ℕ, _+_}
 use Rattle.stream.specs.Format.{Format}
 use Rattle.stream.specs.Reading.{Taken, Yield, Reads}
 use Rattle.pending.specs.Held.{empty, held, Sized}
@@ -68,7 +68,11 @@ abbrev pub besides : Card → Card
 besides c = withPending empty c
 
 -- ---- messages
--- one message of it on a card
+-- "ENQUIRY, 8 bytes: 04 ADR p×5 05", "ADR is address + 32": of Inv St, `E00E9`
+abbrev pub asksStatus : ℕ → List ℕ
+asksStatus address = 0x04 ∷ (address + 32) ∷ 0x45 ∷ 0x30 ∷ 0x30 ∷ 0x45 ∷ 0x39 ∷ 0x05 ∷ []
+
+-- one message of a protocol on a card
 abbrev pub message : Wire → Card → List ℕ → Received
 message W c m = answered (c .identity) (c .port .pending) 0 (W .served c m) (W .reply c m)
 

@@ -19,6 +19,7 @@ use Rattle.card.specs.Events.{faultRaised, causeEnded, din1Set, ticked}
 use Rattle.card.specs.Outcome.{outcomeNumber}
 use Rattle.turn.specs.Turn.{Received}
 use Rattle.receive.specs.Receive.{received}
+use Rattle.demands.specs.Calls.{asksStatus}
 
 -- a message's outcome number and its reply
 pub record Said : Type 0 where
@@ -102,12 +103,9 @@ scmd-129 = 0x04 ∷ 0x21 ∷ 0x02 ∷ 0x45 ∷ 0x30 ∷ 0x30 ∷ 0x41 ∷ 0x44 �
 abbrev pub sio-tot-10 : List ℕ
 sio-tot-10 = 0x04 ∷ 0x21 ∷ 0x02 ∷ 0x45 ∷ 0x30 ∷ 0x30 ∷ 0x41 ∷ 0x42 ∷ 0x3D ∷ 0x30 ∷ 0x30 ∷ 0x30 ∷ 0x41 ∷ 0x03 ∷ 0x09 ∷ []
 
--- ENQUIRY of Inv St at an address; at ours, 1, of Inv St, SCMD and SioErr
-abbrev pub ask-at : ℕ → List ℕ
-ask-at address = 0x04 ∷ (address + 32) ∷ 0x45 ∷ 0x30 ∷ 0x30 ∷ 0x45 ∷ 0x39 ∷ 0x05 ∷ []
-
+-- ENQUIRY of Inv St, SCMD and SioErr
 abbrev pub ask-status : List ℕ
-ask-status = ask-at 1
+ask-status = asksStatus 1
 
 abbrev pub ask-scmd : List ℕ
 ask-scmd = 0x04 ∷ 0x21 ∷ 0x45 ∷ 0x30 ∷ 0x30 ∷ 0x41 ∷ 0x44 ∷ 0x05 ∷ []
@@ -280,7 +278,7 @@ cases =
     ∷ at-mode-3 (tick 50 ∷ came ask-status ∷ tick 50 ∷ came ask-status ∷ tick 50 ∷ came ask-status ∷ [])
     (says 0 status-37 ∷ says 0 status-37 ∷ says 0 status-37 ∷ []) 0
     -- "the last taken message of outcome other than 1": one for another house is none of ours
-    ∷ at-mode-3 (tick 50 ∷ came (ask-at 2) ∷ tick 1 ∷ []) (says 1 [] ∷ []) (2 ^ 14)
+    ∷ at-mode-3 (tick 50 ∷ came (asksStatus 2) ∷ tick 1 ∷ []) (says 1 [] ∷ []) (2 ^ 14)
     -- "Cards restarted with a SioTot of their own keep it": with 10, ten tenths are nothing, and eleven are too long
     ∷ at-mode-3 (came sio-tot-10 ∷ restart ∷ came mode-3 ∷ tick 10 ∷ []) (says 0 ack ∷ says 0 ack ∷ []) 0
     ∷ at-mode-3 (came sio-tot-10 ∷ restart ∷ came mode-3 ∷ tick 11 ∷ []) (says 0 ack ∷ says 0 ack ∷ []) (2 ^ 14)
@@ -294,18 +292,18 @@ cases =
           showing (says 0 (0x01 ∷ 0x06 ∷ 0x02 ∷ 0x94 ∷ 0x00 ∷ 0x03 ∷ 0x89 ∷ 0x9F ∷ []) ∷ says 0 (0x01 ∷ 0x03 ∷ 0x02 ∷ 0x00 ∷ 0x0E ∷ 0x39 ∷ 0x80 ∷ []) ∷ []) (2 ^ 14);
     }
     -- "That becomes the allowed range": SiAdr 94 is written, and the card answers to 94 from the next message on, to 0, and no more to 1; 1 is written;
-    ∷ case (si-adr ++ (to-94 ++ (ask-at 94 ++ (ask-at 0 ++ ask-at 1)))) (says 0 ack ∷ says 0 (status-24 94) ∷ says 0 (status-24 0) ∷ says 1 [] ∷ [])
-    ∷ case (si-adr ++ (to-1 ++ ask-at 1)) (says 0 ack ∷ says 0 (status-24 1) ∷ [])
+    ∷ case (si-adr ++ (to-94 ++ (asksStatus 94 ++ (asksStatus 0 ++ asksStatus 1)))) (says 0 ack ∷ says 0 (status-24 94) ∷ says 0 (status-24 0) ∷ says 1 [] ∷ [])
+    ∷ case (si-adr ++ (to-1 ++ asksStatus 1)) (says 0 ack ∷ says 0 (status-24 1) ∷ [])
     -- "Refusals: 4 for 0 and 95", by broadcast and over RTU, too, and the card goes on answering
-    ∷ case (si-adr ++ (to-95 ++ (ask-at 1 ++ ask-at 95))) (says 4 nak ∷ says 0 (status-24 1) ∷ says 1 [] ∷ [])
-    ∷ case (si-adr ++ (to-0 ++ (ask-at 1 ++ ask-at 0))) (says 4 nak ∷ says 0 (status-24 1) ∷ says 0 (status-24 0) ∷ [])
-    ∷ case (0x04 ∷ 0x7F ∷ drop 2 si-adr ++ (to-95 ++ ask-at 1)) (says 4 [] ∷ says 0 (status-24 1) ∷ [])
+    ∷ case (si-adr ++ (to-95 ++ (asksStatus 1 ++ asksStatus 95))) (says 4 nak ∷ says 0 (status-24 1) ∷ says 1 [] ∷ [])
+    ∷ case (si-adr ++ (to-0 ++ (asksStatus 1 ++ asksStatus 0))) (says 4 nak ∷ says 0 (status-24 1) ∷ says 0 (status-24 0) ∷ [])
+    ∷ case (0x04 ∷ 0x7F ∷ drop 2 si-adr ++ (to-95 ++ asksStatus 1)) (says 4 [] ∷ says 0 (status-24 1) ∷ [])
     ∷ rtu (0x01 ∷ 0x06 ∷ 0x07 ∷ 0x00 ∷ 0x00 ∷ 0x5F ∷ 0xC8 ∷ 0x86 ∷ []) (says 4 (0x01 ∷ 0x86 ∷ 0x03 ∷ 0x02 ∷ 0x61 ∷ []) ∷ [])
     -- "A restart that finds 0 or 95 kept from before puts 1 there": the card answers to 1 then, and "0 and 95 keep their meaning on the line"
-    ∷ holding 95 (ask-at 1 ++ (ask-at 95 ++ ask-at 0)) (says 1 [] ∷ says 1 [] ∷ says 0 (status-24 0) ∷ []) (ask-at 1 ++ ask-at 95) (says 0 (status-24 1) ∷ says 1 [] ∷ [])
-    ∷ holding 0 (ask-at 1) (says 1 [] ∷ []) (ask-at 1 ++ ask-at 0) (says 0 (status-24 1) ∷ says 0 (status-24 0) ∷ [])
+    ∷ holding 95 (asksStatus 1 ++ (asksStatus 95 ++ asksStatus 0)) (says 1 [] ∷ says 1 [] ∷ says 0 (status-24 0) ∷ []) (asksStatus 1 ++ asksStatus 95) (says 0 (status-24 1) ∷ says 1 [] ∷ [])
+    ∷ holding 0 (asksStatus 1) (says 1 [] ∷ []) (asksStatus 1 ++ asksStatus 0) (says 0 (status-24 1) ∷ says 0 (status-24 0) ∷ [])
     -- and any other number stays
-    ∷ holding 94 (ask-at 94) (says 0 (status-24 94) ∷ []) (ask-at 94 ++ ask-at 1) (says 0 (status-24 94) ∷ says 1 [] ∷ [])
+    ∷ holding 94 (asksStatus 94) (says 0 (status-24 94) ∷ []) (asksStatus 94 ++ asksStatus 1) (says 0 (status-24 94) ∷ says 1 [] ∷ [])
     -- "Who are you?" Over RTU, by function 43, type 14:
     -- code 01, object 00h: up to 02h
     ∷ rtu (0x01 ∷ 0x2B ∷ 0x0E ∷ 0x01 ∷ 0x00 ∷ 0x70 ∷ 0x77 ∷ [])

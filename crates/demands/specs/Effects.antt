@@ -8,7 +8,7 @@ use Prim.Native.Nat.{ℕ, _/_, _<_}
 use lib.Dec.{eqb}
 use lib.ListN.{length, getD}
 use Rattle.base.specs.Choice.{pick, both, either}
-use Rattle.table.specs.Names.{SiAdr, Mode, Setpoint, MODE, SCMD, Inv-St-ack, Inv-St, SioErr, rowCount}
+use Rattle.table.specs.Names.{Mode, Setpoint, MODE, SCMD, Inv-St-ack, Inv-St, SioErr, rowCount}
 use Rattle.table.specs.Table.{Word, lineAt}
 use Rattle.table.specs.Find.{rowOfE, rowOfSpan}
 use Rattle.table.specs.declared.labels.Found.{Found}
@@ -16,7 +16,7 @@ use Rattle.table.specs.declared.labels.Found.the-variants.{At}
 use Rattle.identity.specs.Identity.{Identity}
 use Rattle.identity.specs.declared.Part.{Part}
 use Rattle.port.specs.Port.{protocol, sum, sioerr, withSioerr}
-use Rattle.drive.specs.Plant.{Plant, mode, scmd, din1, causes, flags, station, withFlags}
+use Rattle.drive.specs.Plant.{Plant, siAdr, mode, scmd, din1, causes, flags, station, withFlags}
 use Rattle.drive.specs.Flags.{flagged, only}
 use Rattle.drive.specs.Faults.{active}
 use Rattle.answers.specs.declared.Answer.the-variants as Answers
@@ -53,7 +53,7 @@ AsksRow n (Many first) = ⊥
 -- `Asks c n m`: m is a message of the card's protocol that asks it for row n: "We answer to SiAdr and to 0", and over Modbus to our own address
 pub data Asks (c : Card) (n : ℕ) : List ℕ → Type 0 where
   to-0 : (e : ℕ) → protocolOf c ≡ 0 → e < 65536 → rowOfE e ≡ row n → Asks c n (enquiryOf 0 e)
-  to-SiAdr : (e : ℕ) → protocolOf c ≡ 0 → enquirable (getD (c .plant) SiAdr 0) ≡ true → e < 65536 → rowOfE e ≡ row n → Asks c n (enquiryOf (getD (c .plant) SiAdr 0) e)
+  to-SiAdr : (e : ℕ) → protocolOf c ≡ 0 → enquirable (siAdr (c .plant)) ≡ true → e < 65536 → rowOfE e ≡ row n → Asks c n (enquiryOf (siAdr (c .plant)) e)
   rtu : (ask : Ask) → protocolOf c ≡ 1 → sayable (station (c .plant)) ask 0 ≡ true → AsksRow n ask → Asks c n (rtuOf (station (c .plant)) (requestUnit ask []))
   ascii : (ask : Ask) → protocolOf c ≡ 2 → sayable (station (c .plant)) ask 0 ≡ true → InWidth ask [] → AsksRow n ask
       → Asks c n (asciiOf (station (c .plant)) (requestUnit ask []))

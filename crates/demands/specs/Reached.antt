@@ -2,8 +2,7 @@
 -- any card on NFO serial whose SiAdr is 1 to 94, and let anything come to it: messages, other bytes, restarts, and what the host tells. Whoever then asks it for Inv St, once
 -- nothing is pending, is answered: at the address that it has at that moment, and at 0. Assumes nothing.
 use mathlib.Core.Path.{_≡_}
-use mathlib.Core.List.{List, [], _∷_}
-use Prim.Native.Nat.{ℕ, _+_, _≤_}
+use Prim.Native.Nat.{ℕ, _≤_}
 use lib.ListN.{length}
 use Rattle.drive.specs.Plant.{Sized, siAdr}
 use Rattle.card.specs.State.{restarted}
@@ -11,18 +10,14 @@ use Rattle.card.specs.Outcome.{outcomeNumber}
 use Rattle.card.specs.declared.state.Card.{Card}
 use Rattle.turn.specs.Turn.{Received}
 use Rattle.receive.specs.Receive.{received}
-use Rattle.demands.specs.Calls.{Run, nfoSerial, Speaks, NothingPending}
+use Rattle.demands.specs.Calls.{Run, nfoSerial, Speaks, NothingPending, asksStatus}
 use Rattle.demands.specs.Kept.{OwnAddress, Healed}
-
--- "ENQUIRY, 8 bytes: 04 ADR p×5 05", "ADR is address + 32"; Inv St is `E00E9`
-abbrev pub asksStatus : ℕ → List ℕ
-asksStatus address = 0x04 ∷ (address + 32) ∷ 0x45 ∷ 0x30 ∷ 0x30 ∷ 0x45 ∷ 0x39 ∷ 0x05 ∷ []
 
 -- done, and "REPLY, 14 bytes"
 abbrev pub Replied : Received → Type 0
 Replied r = (outcomeNumber (r .outcome) ≡ 0) × (length (r .reply) ≡ 14)
 
--- whoever asks the card at this address, once nothing is pending, is answered
+-- whoever asks the card for Inv St at this address, once nothing is pending, is answered
 abbrev pub AnswersTo : Card → ℕ → Type 0
 AnswersTo c address = NothingPending c → (room : ℕ) → 19 ≤ room → Replied (received c (asksStatus address) room)
 

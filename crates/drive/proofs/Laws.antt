@@ -92,7 +92,7 @@ pub fault-past : (n : ℕ) → 24 ≤ n → false ≡ isFault n
 unfolding isFault
 fault-past n a = simp (le-leb 1 n (omega arith), lt-leb n 13 (omega arith), le-leb 16 n (omega arith), lt-leb n 23 (omega arith))
 
--- ---- SiAdr after a restart: 0 and 95 become 1, any other number stays, and so it is neither
+-- ---- SiAdr after a restart: 0 and 95 become 1, and any other number stays
 pub healed-these : (a : ℕ) → (a ≡ 0) ⊎ (a ≡ 95) → healed a ≡ 1
 unfolding healed
 healed-these a (inl e) = simp e
@@ -102,14 +102,10 @@ pub healed-others : (a : ℕ) → a ≢ 0 → a ≢ 95 → healed a ≡ a
 unfolding healed
 healed-others a n m = simp (ne-eqb a 0 n, ne-eqb a 95 m)
 
-pub healed-never : (a : ℕ) → (healed a ≢ 0) × (healed a ≢ 95)
+-- so it is what 1 is, and what every number is that is neither
+pub healed-both : (Q : ℕ → Type 0) (a : ℕ) → Q 1 → (a ≢ 0 → a ≢ 95 → Q a) → Q (healed a)
 unfolding healed
-healed-never a =
-    pick-both Neither (eqb a 0) (λ _. (λ e. omega (arith, e), λ e. omega (arith, e)))
-    (λ n. pick-both Neither (eqb a 95) (λ _. (λ e. omega (arith, e), λ e. omega (arith, e))) (λ m. (eqb-false a 0 n, eqb-false a 95 m)))
-  where
-    Neither : ℕ → Type 0
-    Neither x = (x ≢ 0) × (x ≢ 95)
+healed-both Q a one other = pick-both Q (eqb a 0) (λ _. one) (λ n. pick-both Q (eqb a 95) (λ _. one) (λ m. other (eqb-false a 0 n) (eqb-false a 95 m)))
 
 -- ---- the broadcast stop: flag 14 is cleared, and then SCMD is 0
 pub stopped-then : (p q : Plant) → q ≡ without14 p → withScmd 0 q ≡ stopped p

@@ -4,10 +4,9 @@ use mathlib.Core.Bool.{Bool, true, false, not}
 use mathlib.Core.List.{List, [], _∷_, _++_}
 use Prim.Native.Nat.{ℕ, _+_}
 use lib.Dec.{eqb}
-use lib.ListN.{getD}
 use Rattle.base.specs.Choice.{pick, both, either}
 use Rattle.base.specs.Order.{Line, when, firstOf, saying, numbers}
-use Rattle.table.specs.Names.{SiAdr, SCMD}
+use Rattle.table.specs.Names.{SCMD}
 use Rattle.table.specs.Find.{rowOfE}
 use Rattle.table.specs.declared.labels.Row.{Row}
 use Rattle.table.specs.declared.labels.Found.{Found}
@@ -19,7 +18,7 @@ use Rattle.nfo_parts.specs.declared.message.Parameter.the-variants.{Number, NoN
 use Rattle.nfo_parts.specs.declared.message.Value.{Value}
 use Rattle.nfo_parts.specs.declared.message.Value.the-variants.{Word, NotHex}
 use Rattle.port.specs.Port.{Numbers, withSioerr}
-use Rattle.drive.specs.Plant.{Plant}
+use Rattle.drive.specs.Plant.{Plant, siAdr}
 use Rattle.answers.specs.declared.Answer.{Answer}
 use Rattle.answers.specs.declared.Answer.the-variants as Answers
 use Rattle.answers.specs.declared.Refusal.the-variants as Refusals
@@ -39,7 +38,7 @@ toAll adr = eqb adr (adrOf 95)
 
 -- "We answer to SiAdr and to 0"
 unfoldable pub toUs : Plant → ℕ → Bool
-toUs p adr = both (not (toAll adr)) (either (eqb adr (adrOf 0)) (eqb adr (adrOf (getD p SiAdr 0))))
+toUs p adr = both (not (toAll adr)) (either (eqb adr (adrOf 0)) (eqb adr (adrOf (siAdr p))))
 
 unfoldable pub reachesUs : Plant → ℕ → Bool
 reachesUs p adr = either (toAll adr) (toUs p adr)
