@@ -466,18 +466,69 @@ static void bytes_from_the_line(void)
     scraps("ASCII, small letters, in scraps", CARD_ASCII, TEXT(":010307000001f4\r\n"), 14, TEXT(":0103020001F9\r\n"));
 }
 
-/* ---- SiAdr kept from before */
-/* An ENQUIRY of Inv St, 24, by each function, to a card on NFO serial: answered or not, and nothing changes. */
-static void asked_at(card *c, uint8_t address, int answers)
+/* ---- Inv St */
+/* A question, by each function, to a card with that plant: what comes of it, and nothing changes. */
+static void asked(uint32_t protocol, const card *c, const char *bytes, size_t n, uint32_t outcome, const char *reply, size_t len)
 {
-    const uint8_t ask[] = { 0x04, (uint8_t)(address + 32), 'E', '0', '0', 'E', '9', 0x05 };
-    const char reply[] = { (char)(address + 32), 0x02, 'E', '0', '0', 'E', '9', '=', '0', '0', '1', '8', 0x03, 0x0E };
-    const card right = *c;
-
-    for (enum way way = 0; way < WAYS; way++)
-        call(way, CARD_NFO, c, ask, sizeof ask, 19, answers ? CARD_DONE : CARD_NOT_OURS, sizeof ask, reply, answers ? sizeof reply : 0, &right);
+    for (enum way way = 0; way < WAYS; way++) {
+        card d = port_for(way, protocol), right;
+        memcpy(d.plant, c->plant, sizeof d.plant);
+        right = d;
+        call(way, protocol, &d, (const uint8_t *)bytes, n, least[protocol], outcome, n, reply, len, &right);
+    }
 }
 
+/* The ENQUIRY of Inv St at an address, on NFO serial: the number is told, or it is not ours. */
+static void asked_at(const card *c, uint8_t address, uint32_t number, int ours)
+{
+    const char enquiry[] = { 0x04, (char)(address + 32), 'E', '0', '0', 'E', '9', 0x05 };
+    char reply[15];
+    uint8_t bcc = 0;
+
+    snprintf(reply, sizeof reply, "%c\x02" "E00E9=%04X\x03", address + 32, (unsigned)number);
+    for (size_t i = 2; i < 13; i++)
+        bcc ^= (uint8_t)reply[i];
+    reply[13] = (char)bcc;
+    asked(CARD_NFO, c, enquiry, sizeof enquiry, ours ? CARD_DONE : CARD_NOT_OURS, reply, ours ? 14 : 0);
+}
+
+/* Inv St tells that number, on NFO serial and on Modbus. */
+static void status_told(const card *c, uint32_t number)
+{
+    char unit[16];
+
+    asked_at(c, 1, number, 1);
+    snprintf(unit, sizeof unit, ":010302%04X%02X\r\n", (unsigned)number, (unsigned)(0x100 - 0x01 - 0x03 - 0x02 - number));
+    asked(CARD_ASCII, c, TEXT(":010302A5000154\r\n"), CARD_DONE, unit, 15);
+}
+
+/* "Inv St is the lowest flagged number, else 24 at MODE 1, 33/34 at MODE 2 and 37/38 at MODE 3, standing/running": each of the 32 bits alone, with another above
+ * it, and with all above it; and no flag. */
+static void statuses(void)
+{
+    card c = driving();
+
+    part = "Inv St, a flag";
+    for (uint32_t n = 0; n < 32; n++) {
+        for (uint32_t other = n; other < 32; other++) {
+            c.plant[CARD_FLAGS] = 1u << n | 1u << other;
+            status_told(&c, n);
+        }
+        c.plant[CARD_FLAGS] = UINT32_MAX << n;
+        status_told(&c, n);
+    }
+    part = "Inv St, no flag";
+    c.plant[CARD_FLAGS] = 0;
+    for (uint32_t runs = 0; runs <= 1; runs++)
+        for (uint32_t mode = 1; mode <= 3; mode++) {
+            c.plant[CARD_MODE] = mode;
+            c.plant[CARD_DIN1] = runs;
+            c.plant[CARD_SCMD] = runs ? 129 : 0;
+            status_told(&c, mode == 1 ? 24 : mode == 2 ? 33 + runs : 37 + runs);
+        }
+}
+
+/* ---- SiAdr kept from before */
 /* "A restart that finds 0 or 95 kept from before puts 1 there", and any other number stays. The card answers to what is there then, and to 0; "95 is broadcast". */
 static void address_kept(uint32_t kept, uint32_t then)
 {
@@ -487,9 +538,9 @@ static void address_kept(uint32_t kept, uint32_t then)
     c.plant[CARD_SI_ADR] = kept;
     d = c;
     for (uint8_t address = 1; address < 95; address++)
-        asked_at(&c, address, address == kept);
-    asked_at(&c, 0, 1);
-    asked_at(&c, 95, 0);
+        asked_at(&c, address, 24, address == kept);
+    asked_at(&c, 0, 24, 1);
+    asked_at(&c, 95, 24, 0);
     right = c;
     right.plant[CARD_SI_ADR] = then;
     part = "SiAdr kept from before, after a restart";
@@ -498,9 +549,9 @@ static void address_kept(uint32_t kept, uint32_t then)
     card_restart_in(&d.port.pending.len, d.port.numbers, d.plant);
     same_words(&d, &right);
     for (uint8_t address = 1; address < 95; address++)
-        asked_at(&c, address, address == then);
-    asked_at(&c, 0, 1);
-    asked_at(&c, 95, 0);
+        asked_at(&c, address, 24, address == then);
+    asked_at(&c, 0, 24, 1);
+    asked_at(&c, 95, 24, 0);
 }
 
 static void addresses_kept(void)
@@ -654,6 +705,7 @@ int main(void)
     silence();
     limits();
     bytes_from_the_line();
+    statuses();
     addresses_kept();
     identity_told();
     identity_refused();

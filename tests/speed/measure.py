@@ -3,8 +3,8 @@
 
 Each program runs few rounds and more rounds; the difference of the two counts is what the rounds between cost, so that set-up is not counted. On x86-64 valgrind's
 callgrind counts; elsewhere the kit's emulator writes a line for each instruction that it runs, and the lines are counted. Each program prints a sum over the
-outcome, the used bytes and the reply's length of every call: the sums must be the same. With --write all are counted and the table goes to docs/SPEED.md; without, ours
-alone are counted, and must not be above the numbers there."""
+outcome, the used bytes and the reply's length of every call: the sums must be the same. Then a read of Inv St is counted, through the library, for some flags: each must
+be told. With --write all are counted and the two tables go to docs/SPEED.md; without, ours alone are counted, and must not be above the numbers there."""
 import os
 import platform
 import re
@@ -20,6 +20,7 @@ PAGE = os.path.join(TOP, "docs", "SPEED.md")
 ROUNDS = (1, 2)
 NAMES = {"nfo": "NFO serial", "ascii": "Modbus ASCII", "rtu": "Modbus RTU"}
 MESSAGES = 1000
+STATUS = {0: 24, 1: 1, 13: 13, 23: 23}  # a flag, or 0 for none, and what Inv St tells of a fresh card then
 NATIVE = platform.machine() == "x86_64"
 COMPILER = "gcc" if NATIVE else "x86_64-linux-gnu-gcc"
 MARGIN = 1.01  # another build of the same compiler may move a few instructions
@@ -59,14 +60,14 @@ def build(folder, name, bit_step):
     return program
 
 
-def host(folder):
-    """The C host over the library, compiled as firmware is."""
+def host(folder, name):
+    """A C host over the library, compiled as firmware is."""
     library = os.path.join(TOP, "target", "staticlib", "liblinecard.a")
     if not os.path.exists(library):
         subprocess.check_call(["rt", "staticlib", "linecard"], cwd=TOP, stdout=subprocess.DEVNULL)
-    program = os.path.join(folder, "host")
+    program = os.path.join(folder, name)
     words = ["-std=c11", "-O2", "-Wall", "-Wextra", "-Werror", "-static", "-I", os.path.join(TOP, "include")]
-    subprocess.check_call([COMPILER] + words + ["-o", program, os.path.join(HERE, "host.c"), library])
+    subprocess.check_call([COMPILER] + words + ["-o", program, os.path.join(HERE, name + ".c"), library])
     return program
 
 
@@ -107,7 +108,7 @@ def table(folder, write, known):
     ours_program = os.path.join(TOP, "target", "bin", "speed")
     if not os.path.exists(ours_program):
         fail("target/bin/speed is not built (rt check speed builds it)")
-    library = command(host(folder), False)
+    library = command(host(folder, "host"), False)
     theirs = {"nfo": build(folder, "card", False), "ascii": None, "rtu": build(folder, "card_bits", True)}
     theirs["ascii"] = theirs["nfo"]
     rows = []
@@ -128,6 +129,23 @@ def table(folder, write, known):
     return rows
 
 
+def status(folder):
+    """Instructions a read of Inv St, on NFO serial and on Modbus RTU, for each flag."""
+    program = command(host(folder, "status"), False)
+    rows = []
+    for flag, number in STATUS.items():
+        counts = []
+        for protocol in ("nfo", "rtu"):
+            ours, said = a_message(folder, program, [protocol, str(flag)], "")
+            right = ["%s flag %d done %d told %d\n" % (protocol, flag, rounds * MESSAGES, number) for rounds in ROUNDS]
+            if said != right:
+                fail("a read of Inv St prints %r, and not %r" % (said, right))
+            counts.append(ours)
+        print("speed: a read of Inv St that tells %2d: %4.0f instructions on NFO serial, %4.0f on Modbus RTU" % (number, *counts))
+        rows.append((flag, *counts))
+    return rows
+
+
 def written(rows):
     out = ["| protocol | the library, from C | in Rattle | C by hand | ratios |", "|-|-|-|-|-|"]
     for protocol, library, ours, c in rows:
@@ -136,26 +154,53 @@ def written(rows):
     return "\n".join(out) + "\n"
 
 
+def status_written(rows):
+    out = ["| flag | NFO serial | Modbus RTU |", "|-|-|-|"]
+    for flag, nfo, rtu in rows:
+        out.append("| %s | %.0f | %.0f |" % (flag or "none", nfo, rtu))
+    return "\n".join(out) + "\n"
+
+
+def part(name):
+    """The page's table that stands under a mark of that name: its place, and the whole numbers of each of its rows."""
+    at = re.search(r"(?<=<!-- %s -->\n).*?(?=<!-- its end -->)" % name, open(PAGE).read(), re.S)
+    return at.span(), [tuple(map(int, re.findall(r"(?<=\| )\d+(?=[ ,])", line))) for line in at.group(0).splitlines()[2:]]
+
+
+def put(name, lines):
+    """Writes a table in the place of the one under that mark."""
+    page = open(PAGE).read()
+    (start, end), _ = part(name)
+    open(PAGE, "w").write(page[:start] + lines + page[end:])
+
+
+def not_above(what, now, limit):
+    if now > MARGIN * limit:
+        fail("%s: %.0f instructions, and docs/SPEED.md has %d; if that is meant, tests/speed/run --write" % (what, now, limit))
+
+
 def main():
     if shutil.which(COMPILER) is None:
         skip("no C compiler for x86-64 (%s)" % COMPILER)
     if NATIVE and shutil.which("valgrind") is None:
         skip("no valgrind")
-    page = open(PAGE).read()
-    at = re.search(r"(?<=<!-- the table -->\n).*?(?=<!-- its end -->)", page, re.S)
     write = "--write" in sys.argv[1:]
-    stored = {protocol: tuple(map(int, counts)) for protocol, counts in zip(NAMES, re.findall(r"^\| [^|]*\| (\d+) \| (\d+) \| (\d+)", at.group(0), re.M))}
-    if not write and len(stored) != 3:
-        fail("docs/SPEED.md has no table of three rows")
+    messages, reads = part("the table")[1], part("status")[1]
+    if not write and (len(messages), len(reads)) != (len(NAMES), len(STATUS)):
+        fail("docs/SPEED.md has not its tables of %d and %d rows" % (len(NAMES), len(STATUS)))
     with tempfile.TemporaryDirectory() as folder:
-        rows = table(folder, write, stored)
+        rows = table(folder, write, dict(zip(NAMES, messages)))
+        read = status(folder)
     if write:
-        open(PAGE, "w").write(page[: at.start()] + written(rows) + page[at.end():])
+        put("the table", written(rows))
+        put("status", status_written(read))
         return
-    for protocol, library, ours, _ in rows:
-        for where, count_now, limit in (("through the library", library, stored[protocol][0]), ("in Rattle", ours, stored[protocol][1])):
-            if count_now > MARGIN * limit:
-                fail("%s: %.0f instructions a message %s, and docs/SPEED.md has %d; if that is meant, tests/speed/run --write" % (protocol, count_now, where, limit))
+    for (protocol, library, ours, _), stored in zip(rows, messages):
+        not_above(protocol + ", a message through the library", library, stored[0])
+        not_above(protocol + ", a message in Rattle", ours, stored[1])
+    for (flag, nfo, rtu), stored in zip(read, reads):
+        not_above("a read of Inv St, flag %d, on NFO serial" % flag, nfo, stored[-2])
+        not_above("a read of Inv St, flag %d, on Modbus RTU" % flag, rtu, stored[-1])
 
 
 main()
