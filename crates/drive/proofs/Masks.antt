@@ -1,49 +1,34 @@
--- Masks, bit by bit: what each says of a fault number, and the lowest number by trying the bits one by one. Assumes nothing.
+-- Masks, bit by bit: what each says of a fault number, and the lowest number, which is the count of the zeros below it. Assumes nothing.
 use mathlib.Core.Path.{_≡_, refl, sym, ap, _∙_}
 use mathlib.Core.Bool.{Bool, true, false, not}
-use Prim.Native.Nat.{ℕ, zero, suc, _+_, _-_, _*_, _/_, _%_, _^_, _≤_, _<_}
-use native.Mathlib.Nat.{mod-lt, div-one, pow-suc}
+use Prim.Native.Nat.{ℕ, zero, suc, _+_, _*_, _/_, _%_, _^_, _≤_, _<_}
+use native.Mathlib.Nat.{mod-lt, div-one, pow-suc, zero-add}
 use native.Mathlib.Omega.{arith}
-use lib.Bits.{bitOr, bitAnd, and-mask, or-shr, and-shr, or-mod, and-mod}
+use lib.Bits.{bitOr, bitAnd, or-shr, and-shr, or-mod, and-mod}
+use lib.Count.{trailingZeros, under}
 use lib.Dec.{eqb, ltb}
 use lib.Pow.{shr-shr}
-use borrow.Author.Tests.{eq-eqb, ne-eqb, eqb-true, eqb-false, ltb-true, ltb-false}
+use borrow.Author.Tests.{eqb-true, eqb-false, ltb-true, ltb-false}
 use Rattle.base.specs.Choice.{pick, both, either}
 use Rattle.base.specs.Bytes.{everyBelow}
 use Rattle.base.proofs.Tests.{below-at}
 use Rattle.drive.specs.Flags.{Masks, flagged, only, allBut, lowestFrom, lowestOf}
 
--- ---- the loop that tries the bits
--- the mask of the low bit tells the flag
-flagged-yes : (n f : ℕ) → bitAnd (f / 2 ^ n) 1 ≡ 1 → flagged n f ≡ true
-unfolding flagged
-flagged-yes n f e = eq-eqb _ _ (sym (and-mask (f / 2 ^ n) 1) ∙ e)
+-- ---- the lowest number is the count of the zeros below it, of a mask of any width k. Of the mask 0 both are k
+-- counted from bit n on
+zeros-from : (k n mask : ℕ) → n + trailingZeros k (mask / 2 ^ n) ≡ lowestFrom k n mask
+unfolding trailingZeros lowestFrom flagged
+zeros-from zero n mask = omega arith
+zeros-from (suc k) n mask = turn (mask / 2 ^ n % 2) (mod-lt (mask / 2 ^ n) (omega arith)) (zeros-from k (n + 1) mask)
+  where
+    turn : (digit : ℕ) → digit < 2 → n + 1 + trailingZeros k (mask / 2 ^ (n + 1)) ≡ lowestFrom k (n + 1) mask
+        → n + under digit (trailingZeros k (mask / 2 ^ n / 2)) ≡ pick (eqb digit 1) n (lowestFrom k (n + 1) mask)
+    turn zero h later = rw (shr-shr mask n 1) (omega arith)
+    turn (suc zero) h later = omega arith
+    turn (suc (suc digit)) h later = absurd (let z : ⊥ = omega arith in z)
 
-flagged-no : (n f : ℕ) → (bitAnd (f / 2 ^ n) 1 ≡ 1 → ⊥) → flagged n f ≡ false
-unfolding flagged
-flagged-no n f e = ne-eqb _ _ (λ h. e (and-mask (f / 2 ^ n) 1 ∙ h))
-
--- what is left to try from n on
-unfoldable pub leftFrom : ℕ → ℕ → ℕ
-leftFrom n f = lowestFrom (32 - n) n f
-
-pub left-first : (f : ℕ) → leftFrom 0 f ≡ lowestOf f
-unfolding leftFrom lowestOf
-left-first f = refl
-
-left-step : (n f : ℕ) → n < 32 → leftFrom n f ≡ pick (flagged n f) n (leftFrom (n + 1) f)
-unfolding leftFrom lowestFrom
-left-step n f h = ap (λ (k : ℕ). lowestFrom k n f) (let q : 32 - n ≡ suc (32 - (n + 1)) = omega arith in q)
-
-pub left-found : (n f : ℕ) → n < 32 → bitAnd (f / 2 ^ n) 1 ≡ 1 → leftFrom n f ≡ lowestOf f → n ≡ lowestOf f
-left-found n f h e r = simp (flagged-yes n f e) at (sym (left-step n f h) ∙ r)
-
-pub left-next : (n f : ℕ) → n < 32 → (bitAnd (f / 2 ^ n) 1 ≡ 1 → ⊥) → leftFrom n f ≡ lowestOf f → leftFrom (n + 1) f ≡ lowestOf f
-left-next n f h e r = simp (flagged-no n f e) at (sym (left-step n f h) ∙ r)
-
-pub left-none : (n f : ℕ) → n ≤ 32 → 32 ≤ n → leftFrom n f ≡ lowestOf f → 32 ≡ lowestOf f
-unfolding leftFrom lowestFrom
-left-none n f a b r = let q : n ≡ 32 = omega arith in rw q at r
+pub zeros-lowest : (k mask : ℕ) → trailingZeros k mask ≡ lowestFrom k 0 mask
+zeros-lowest k mask = simp (div-one, zero-add) at (zeros-from k 0 mask)
 
 -- ---- a digit of two masks
 either-digit : (x y : ℕ) → x < 2 → y < 2 → eqb (bitOr x y) 1 ≡ either (eqb x 1) (eqb y 1)

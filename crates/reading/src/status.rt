@@ -28,16 +28,9 @@ pub(crate) fn status_of(plant: &Plant) -> u32
     24
 }
 
-// The lowest flagged number, or 32 where nothing is flagged.
+// The lowest flagged number, or 32 where nothing is flagged: the processor's count of the zeros below it.
 fn lowest(flags: u32) -> u32
     ensures { λ r. ⌜ r ≡ lowestOf flags ⌝ }
 {
-    let mut n: u32 = 0;
-    while n < 32 {
-        if (flags >> n) & 1 == 1 {
-            return n;
-        }
-        n += 1;
-    }
-    32
+    u32::trailing_zeros(flags)
 }
