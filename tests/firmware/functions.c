@@ -348,7 +348,8 @@ static uint32_t receive(enum way way, uint32_t protocol, card *c, const uint8_t 
 }
 
 /* The port's number for a way: a protocol's own function does not look at it. */
-static card port_for(enum way way, uint32_t protocol) { return fresh(way == ALL || way == ALL_IN ? protocol : (protocol + 1) % 3); }
+static uint32_t number_for(enum way way, uint32_t protocol) { return way == ALL || way == ALL_IN ? protocol : (protocol + 1) % 3; }
+static card port_for(enum way way, uint32_t protocol) { return fresh(number_for(way, protocol)); }
 
 /* One call, and all that it leaves: the outcome, the bytes used, the reply and the bytes past it, the words. */
 static void call(enum way way, uint32_t protocol, card *c, const uint8_t *bytes, size_t n, size_t room, uint32_t outcome, size_t used, const char *reply, size_t len, const card *right)
@@ -467,12 +468,12 @@ static void bytes_from_the_line(void)
 }
 
 /* ---- Inv St */
-/* A question, by each function, to a card with that plant: what comes of it, and nothing changes. */
+/* A question to a card with nothing pending, by each function: what comes of it, and nothing changes. */
 static void asked(uint32_t protocol, const card *c, const char *bytes, size_t n, uint32_t outcome, const char *reply, size_t len)
 {
     for (enum way way = 0; way < WAYS; way++) {
-        card d = port_for(way, protocol), right;
-        memcpy(d.plant, c->plant, sizeof d.plant);
+        card d = *c, right;
+        d.port.numbers[CARD_PROTOCOL] = number_for(way, protocol);
         right = d;
         call(way, protocol, &d, (const uint8_t *)bytes, n, least[protocol], outcome, n, reply, len, &right);
     }
@@ -502,12 +503,20 @@ static void status_told(const card *c, uint32_t number)
     asked(CARD_ASCII, c, TEXT(":010302A5000154\r\n"), CARD_DONE, unit, 15);
 }
 
-/* "Inv St is the lowest flagged number, else 24 at MODE 1, 33/34 at MODE 2 and 37/38 at MODE 3, standing/running": each of the 32 bits alone, with another above
- * it, and with all above it; and no flag. */
+/* "Inv St is the lowest flagged number, else 24 at MODE 1, 33/34 at MODE 2 and 37/38 at MODE 3, standing/running": no flag; and each of the 32 bits alone, with
+ * another above it, and with all above it. */
 static void statuses(void)
 {
-    card c = driving();
+    card c = fresh(CARD_NFO);
 
+    part = "Inv St, no flag";
+    for (uint32_t runs = 0; runs <= 1; runs++)
+        for (uint32_t mode = 1; mode <= 3; mode++) {
+            c.plant[CARD_MODE] = mode;
+            c.plant[CARD_DIN1] = runs;
+            c.plant[CARD_SCMD] = runs ? 129 : 0;
+            status_told(&c, mode == 1 ? 24 : mode == 2 ? 33 + runs : 37 + runs);
+        }
     part = "Inv St, a flag";
     for (uint32_t n = 0; n < 32; n++) {
         for (uint32_t other = n; other < 32; other++) {
@@ -517,15 +526,6 @@ static void statuses(void)
         c.plant[CARD_FLAGS] = UINT32_MAX << n;
         status_told(&c, n);
     }
-    part = "Inv St, no flag";
-    c.plant[CARD_FLAGS] = 0;
-    for (uint32_t runs = 0; runs <= 1; runs++)
-        for (uint32_t mode = 1; mode <= 3; mode++) {
-            c.plant[CARD_MODE] = mode;
-            c.plant[CARD_DIN1] = runs;
-            c.plant[CARD_SCMD] = runs ? 129 : 0;
-            status_told(&c, mode == 1 ? 24 : mode == 2 ? 33 + runs : 37 + runs);
-        }
 }
 
 /* ---- SiAdr kept from before */

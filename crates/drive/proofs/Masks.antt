@@ -14,7 +14,7 @@ use Rattle.base.specs.Bytes.{everyBelow}
 use Rattle.base.proofs.Tests.{below-at}
 use Rattle.drive.specs.Flags.{Masks, flagged, only, allBut, lowestFrom, lowestOf}
 
--- ---- the lowest number is the count of the zeros below it, of a mask of any width k. Of the mask 0 both are k
+-- ---- the count of trailing zeros
 -- counted from bit n on
 zeros-from : (k n mask : ℕ) → n + trailingZeros k (mask / 2 ^ n) ≡ lowestFrom k n mask
 unfolding trailingZeros lowestFrom flagged
@@ -27,6 +27,7 @@ zeros-from (suc k) n mask = turn (mask / 2 ^ n % 2) (mod-lt (mask / 2 ^ n) (omeg
     turn (suc zero) h later = omega arith
     turn (suc (suc digit)) h later = absurd (let z : ⊥ = omega arith in z)
 
+-- in a mask of any width k the lowest number is the count of the zeros below it; of the mask 0 both are k
 pub zeros-lowest : (k mask : ℕ) → trailingZeros k mask ≡ lowestFrom k 0 mask
 zeros-lowest k mask = simp (div-one, zero-add) at (zeros-from k 0 mask)
 
