@@ -23,6 +23,7 @@ pub mod Naming
 pub mod Allowing
 pub mod KeptPlant
 pub mod Each
+pub mod Changes
 pub mod Addressed
 pub mod Host
 pub mod Kept
