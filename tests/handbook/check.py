@@ -79,13 +79,13 @@ def outcomes():
 
 def status():
     """Each number that Inv St can tell: the faults, 14, and those of `statusOf`."""
-    events, faults = text("crates/drive/specs/Events.antt"), text("crates/drive/specs/Faults.antt")
+    events, tells = text("crates/drive/specs/Events.antt"), text("crates/drive/specs/Status.antt")
     is_fault = re.search(r"\nisFault n = (.*)\n", events).group(1)
     numbers = []
     for low, high in re.findall(r"both \(leb (\d+) n\) \(leb n (\d+)\)", is_fault):
         numbers += range(int(low), int(high) + 1)
     numbers += [int(re.search(r"\nportFault \w = .*flagRaised \(only (\d+)\)", events).group(1))]
-    doing = re.search(r"\nstatusOf \w =\n(.*?)\n\n", faults, re.S).group(1)
+    doing = re.search(r"\nstatusOf \w =\n(.*?)\n(?:\n|$)", tells, re.S).group(1)
     for running, standing in re.findall(r"pick \(runs \w\) (\d+) (\d+)", doing):
         numbers += [int(running), int(standing)]
     numbers += [int(re.search(r" (\d+)\)\)$", doing).group(1))]

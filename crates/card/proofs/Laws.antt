@@ -10,6 +10,7 @@ use Rattle.identity.specs.Identity.{Identity}
 use Rattle.port.specs.Port.{Numbers, TimeOut, Parity, sum, sioerr, withSum, withSioerr, fresh}
 use Rattle.drive.specs.Plant.{Plant}
 use Rattle.drive.specs.Plant as Plants
+use Rattle.drive.specs.Events as Drive
 use Rattle.drive.specs.declared.events.Measured.{Measured}
 use Rattle.drive.specs.Events.{Event, raised, ended, portFault, withActive, withMeasured}
 use Rattle.pending.specs.declared.Pending.{Pending}
@@ -27,7 +28,7 @@ pub started-of : (protocol : Protocol) (i : Identity) (q p : Plant) (held : Pend
 unfolding started
 started-of protocol i q p held a b d = rw (a, b, d)
 
-pub restarted-of : (c : Card) (q p : Plant) (held : Pending) → p ≡ Plants.restarted (c .plant) → held ≡ Held.emptied (c .port .pending) → q ≡ fresh (protocolOf c)
+pub restarted-of : (c : Card) (q p : Plant) (held : Pending) → p ≡ Drive.restarted (c .plant) → held ≡ Held.emptied (c .port .pending) → q ≡ fresh (protocolOf c)
     → record { port = record { pending = held; numbers = q }; plant = p; identity = c .identity } ≡ restarted c
 unfolding restarted
 restarted-of c q p held a b d = rw (a, b, d)

@@ -6,6 +6,7 @@ use Rattle.port.specs.Port.{Numbers, fresh}
 use Rattle.port.specs.Port as Ports
 use Rattle.drive.specs.Plant.{Plant}
 use Rattle.drive.specs.Plant as Plants
+use Rattle.drive.specs.Events as Drive
 use Rattle.pending.specs.declared.Pending.{Pending}
 use Rattle.pending.specs.Held as Held
 use Rattle.card.specs.declared.state.Card.{Card}
@@ -54,4 +55,4 @@ started protocol i = record { port = record { pending = Held.empty; numbers = fr
 -- "Restart keeps rows 301 to 322, DIN1, causes and measured numbers; .. SioErr and sum 0, nothing pending", but for a SiAdr of 0 or 95 (`healed`); "No message
 -- changes the identity", nor does a restart
 unfoldable pub restarted : Card → Card
-restarted c = record { port = record { pending = Held.emptied (c .port .pending); numbers = fresh (protocolOf c) }; plant = Plants.restarted (c .plant); identity = c .identity }
+restarted c = record { port = record { pending = Held.emptied (c .port .pending); numbers = fresh (protocolOf c) }; plant = Drive.restarted (c .plant); identity = c .identity }

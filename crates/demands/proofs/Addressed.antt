@@ -8,11 +8,10 @@ use lib.Dec.{eqb, ltb}
 use lib.ListN.{getD, set}
 use Rattle.base.proofs.Tests.{pick-both}
 use Rattle.table.specs.Names.{SiAdr, MbAdr, Mode, Setpoint, MODE, SCMD, FrqAct, I-rms, OpTime}
-use Rattle.drive.specs.Plant.{Plant, DIN1, Causes, Flags, Station, siAdr, mode, withSiAdr, withStation, healed}
-use Rattle.drive.specs.Plant as Plants
+use Rattle.drive.specs.Plant.{Plant, DIN1, Causes, Flags, Station, siAdr, mode, withSiAdr, withStation}
 use Rattle.drive.proofs.Laws.{healed-both}
 use Rattle.drive.specs.Faults.{flagRaised, acknowledged, without14, stopped}
-use Rattle.drive.specs.Events.{isFault, Event, raised, ended, portFault, withActive, withMeasured}
+use Rattle.drive.specs.Events.{healed, restarted, isFault, Event, raised, ended, portFault, withActive, withMeasured}
 use Rattle.drive.specs.declared.events.Measured.{Measured}
 use Rattle.drive.specs.declared.events.Measured.the-variants.{Frq, Rms, Optime}
 use Rattle.permit.specs.Refusals.{allowed}
@@ -70,8 +69,8 @@ module _ (Q : ℕ → Type 0) (writes : (p : Plant) (w : ℕ) → allowed p SiAd
   unfolding portFault
   fault-at p at = pick-both At (eqb (mode p) 3) (λ _. flag-at _ p at) (λ _. at)
 
-  restarted-at : (p : Plant) → At p → At (Plants.restarted p)
-  unfolding Plants.restarted
+  restarted-at : (p : Plant) → At p → At (restarted p)
+  unfolding restarted
   restarted-at p at = past _ MODE 1 (omega arith) (past _ SCMD 0 (omega arith) (past _ Flags _ (omega arith) there))
     where
       ours : Plant

@@ -11,8 +11,9 @@ use Rattle.table.specs.Names.{Inv-St-ack, Inv-St, SioErr}
 use Rattle.table.specs.declared.labels.Row.{Row}
 use Rattle.port.specs.Port.{Numbers}
 use Rattle.drive.specs.Plant.{Plant}
-use Rattle.drive.specs.Plant as Plants
-use Rattle.drive.specs.Faults.{flagStands, acknowledged, without14, stopped}
+use Rattle.drive.specs.Status.{flagStands}
+use Rattle.drive.specs.Faults.{acknowledged, without14, stopped}
+use Rattle.drive.specs.Events as Drive
 use Rattle.drive.specs.Events.{raised, ended, portFault, withActive, withMeasured}
 use Rattle.drive.specs.declared.events.Measured.{Measured}
 use Rattle.reading.specs.Read.{Told, told}
@@ -37,7 +38,7 @@ pub record Changes (A : Plant → Type 0) : Type 0 where
   pub activates : (active : Bool) (p : Plant) → A p → A (withActive active p)
   pub measures : (m : Measured) (p : Plant) → A p → A (withMeasured m p)
   pub faults : (p : Plant) → A p → A (portFault p)
-  pub restarts : (p : Plant) → A p → A (Plants.restarted p)
+  pub restarts : (p : Plant) → A p → A (Drive.restarted p)
   pub acknowledges : (p : Plant) → A p → A (acknowledged p)
   pub clears-14 : (p : Plant) → A p → A (without14 p)
   pub stops : (p : Plant) → A p → A (stopped p)

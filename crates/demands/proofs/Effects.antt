@@ -19,7 +19,8 @@ use Rattle.identity.specs.declared.Part.{Part}
 use Rattle.drive.specs.Plant as Plants
 use Rattle.drive.specs.Plant.{Plant, mode, scmd, flags}
 use Rattle.drive.specs.Flags.{only, lowestOf}
-use Rattle.drive.specs.Faults.{active, flagStands, runs, statusOf, only14}
+use Rattle.drive.specs.Status.{active, flagStands, runs, statusOf}
+use Rattle.drive.specs.Faults.{only14}
 use Rattle.drive.proofs.Masks.{masks}
 use Rattle.answers.specs.declared.Answer.{Answer}
 use Rattle.answers.specs.declared.Answer.the-variants as Answers

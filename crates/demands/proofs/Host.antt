@@ -12,10 +12,11 @@ use Rattle.table.specs.Names.{SiAdr, SioTot, MbAdr, MODE, SCMD}
 use Rattle.table.specs.Table.{rows, startWords}
 use Rattle.port.specs.Port.{sum, sioerr}
 use Rattle.drive.specs.Plant as Plants
-use Rattle.drive.specs.Plant.{Plant, Sized, Flags, Station, siAdr, mode, causes, flags, withSiAdr, withMode, withScmd, withFlags, withStation, healed}
+use Rattle.drive.specs.Plant.{Plant, Sized, Flags, Station, siAdr, mode, causes, flags, withSiAdr, withMode, withScmd, withFlags, withStation}
 use Rattle.drive.specs.Flags.{only, allBut}
 use Rattle.drive.specs.Faults.{flagRaised}
-use Rattle.drive.specs.Events.{isFault, raised, ended, portFault, withActive, withMeasured}
+use Rattle.drive.specs.Events as Drive
+use Rattle.drive.specs.Events.{healed, isFault, raised, ended, portFault, withActive, withMeasured}
 use Rattle.drive.proofs.Laws.{fault-small, healed-these, healed-others}
 use Rattle.drive.proofs.Flagging.{put-in, taken-out}
 use Rattle.pending.proofs.Laws.{held-empty, held-emptied}
@@ -118,13 +119,13 @@ module _ (c : Card) (sized : Sized (c .plant)) where
   past-flags i m s f = past i m s ∙ getD-set-other addressed Flags i (causes p) 0 f
 
   pub restarted-address : siAdr (restarted c .plant) ≡ healed (siAdr p)
-  unfolding restarted Plants.restarted
+  unfolding restarted Drive.restarted
   restarted-address =
       past-flags SiAdr (λ e. absurd (omega (arith, e))) (λ e. absurd (omega (arith, e))) (λ e. absurd (omega (arith, e)))
       ∙ getD-set-same ours SiAdr (healed (siAdr p)) 0 (omega (arith, ours-long))
 
   restart : AfterRestart c (restarted c)
-  unfolding restarted Plants.restarted
+  unfolding restarted Drive.restarted
   restart =
       record {
         keeps = λ i a m s f o. past-flags i m s f ∙ getD-set-other ours SiAdr i (healed (siAdr p)) 0 a ∙ getD-set-other p Station i (getD p MbAdr 0) 0 o;

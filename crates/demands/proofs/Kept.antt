@@ -17,7 +17,8 @@ use Rattle.identity.specs.Identity.{Identity}
 use Rattle.port.specs.Port.{Numbers, ProtocolAt, Sum, Sioerr, protocol, sum, withSum, withSioerr}
 use Rattle.drive.specs.Plant.{Plant}
 use Rattle.drive.specs.Plant as Plants
-use Rattle.drive.specs.Faults.{flagStands, without14, stopped}
+use Rattle.drive.specs.Status.{flagStands}
+use Rattle.drive.specs.Faults.{without14, stopped}
 use Rattle.drive.specs.Events.{raised, ended, withActive, withMeasured}
 use Rattle.drive.specs.declared.events.Measured.{Measured}
 use Rattle.answers.specs.declared.Answer.{Answer}

@@ -16,10 +16,11 @@ use Rattle.base.proofs.Tests.{pick-both, both-out, either-out, not-both, below-
 use Rattle.table.specs.Table.{rows, startWords}
 use Rattle.table.specs.Names.{SiAdr, SioTot, MbAdr, Mode, Setpoint, MODE, SCMD, FrqAct, I-rms, OpTime}
 use Rattle.port.specs.Port.{Numbers, sum}
-use Rattle.drive.specs.Plant.{Plant, Sized, DIN1, Causes, Flags, Station, siAdr, mode, scmd, flags, causes, withSiAdr, withScmd, started, healed, restarted}
+use Rattle.drive.specs.Plant.{Plant, Sized, DIN1, Causes, Flags, Station, siAdr, mode, scmd, flags, causes, withSiAdr, withScmd, started}
 use Rattle.drive.specs.Flags.{flagged, only}
-use Rattle.drive.specs.Faults.{active, flagStands, flagRaised, acknowledged, without14, stopped}
-use Rattle.drive.specs.Events.{isFault, Event, raised, ended, portFault, withActive, withMeasured}
+use Rattle.drive.specs.Status.{active, flagStands}
+use Rattle.drive.specs.Faults.{flagRaised, acknowledged, without14, stopped}
+use Rattle.drive.specs.Events.{healed, restarted, isFault, Event, raised, ended, portFault, withActive, withMeasured}
 use Rattle.drive.specs.declared.events.Measured.{Measured}
 use Rattle.drive.specs.declared.events.Measured.the-variants.{Frq, Rms, Optime}
 use Rattle.drive.proofs.Laws.{fault-small}

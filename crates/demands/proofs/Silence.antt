@@ -18,7 +18,7 @@ use Rattle.port.specs.Port.{Numbers, Sum, Sioerr, sum, sioerr, withSioerr}
 use Rattle.drive.specs.Plant as Plants
 use Rattle.drive.specs.Plant.{Plant, Sized, DIN1, Causes, Flags, mode, flags, withDin1, withCauses}
 use Rattle.drive.specs.Flags.{flagged}
-use Rattle.drive.specs.Faults.{runs}
+use Rattle.drive.specs.Status.{runs}
 use Rattle.drive.specs.Events.{isFault}
 use Rattle.drive.specs.declared.events.Measured.{Measured}
 use Rattle.drive.specs.declared.events.Measured.the-variants.{Frq, Rms, Optime}

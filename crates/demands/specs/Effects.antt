@@ -18,7 +18,7 @@ use Rattle.identity.specs.declared.Part.{Part}
 use Rattle.port.specs.Port.{protocol, sum, sioerr, withSioerr}
 use Rattle.drive.specs.Plant.{Plant, siAdr, mode, scmd, din1, causes, flags, station, withFlags}
 use Rattle.drive.specs.Flags.{flagged, only}
-use Rattle.drive.specs.Faults.{active}
+use Rattle.drive.specs.Status.{active}
 use Rattle.answers.specs.declared.Answer.the-variants as Answers
 use Rattle.answers.specs.declared.Change.{Change}
 use Rattle.card.specs.State.{protocolOf, withPlant, cardSum, started}

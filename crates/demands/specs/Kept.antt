@@ -15,7 +15,7 @@ use Rattle.port.specs.Port.{Numbers, sum}
 use Rattle.drive.specs.Plant.{Plant}
 use Rattle.drive.specs.Plant as Plants
 use Rattle.drive.specs.Flags.{flagged}
-use Rattle.drive.specs.Faults.{active}
+use Rattle.drive.specs.Status.{active}
 use Rattle.drive.specs.Events.{isFault}
 use Rattle.pending.specs.Held.{held}
 use Rattle.pending.specs.Held as Held

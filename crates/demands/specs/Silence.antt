@@ -13,7 +13,7 @@ use Rattle.identity.specs.Identity.{Identity}
 use Rattle.port.specs.Port.{sioerr}
 use Rattle.drive.specs.Plant.{Sized, mode, flags}
 use Rattle.drive.specs.Flags.{flagged}
-use Rattle.drive.specs.Faults.{runs}
+use Rattle.drive.specs.Status.{runs}
 use Rattle.drive.specs.declared.events.Measured.{Measured}
 use Rattle.card.specs.State.{coreOf, withCore, started}
 use Rattle.card.specs.Events.{faultRaised, causeEnded, din1Set, measuredSet, parityTold, ticked}

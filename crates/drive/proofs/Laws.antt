@@ -12,10 +12,11 @@ use borrow.Author.Tests.{ne-eqb, eqb-false, le-leb, lt-leb, leb-true}
 use Rattle.base.specs.Choice.{both, either}
 use Rattle.base.proofs.Tests.{pick-both, both-out, either-out, either-right}
 use Rattle.drive.specs.declared.events.Measured.{Measured}
-use Rattle.drive.specs.Plant.{Plant, mode, scmd, din1, causes, flags, withScmd, withCauses, healed}
+use Rattle.drive.specs.Plant.{Plant, mode, scmd, din1, causes, flags, withScmd, withCauses}
 use Rattle.drive.specs.Flags.{only}
-use Rattle.drive.specs.Faults.{active, flagStands, runs, flagRaised, without14, stopped}
-use Rattle.drive.specs.Events.{isFault, raised, ended, withActive, withMeasured}
+use Rattle.drive.specs.Status.{active, flagStands, runs}
+use Rattle.drive.specs.Faults.{flagRaised, without14, stopped}
+use Rattle.drive.specs.Events.{healed, isFault, raised, ended, withActive, withMeasured}
 
 -- ---- running
 twice : (t : Bool) → t ≡ either (not (not t)) false

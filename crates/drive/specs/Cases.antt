@@ -6,10 +6,11 @@ use Prim.Native.Nat.{ℕ}
 use lib.ListN.{getD, set}
 use Rattle.table.specs.Names.{SioTot}
 use Rattle.table.specs.Table.{rows, startWords}
-use Rattle.drive.specs.Plant.{Plant, siAdr, scmd, withSiAdr, withMode, withScmd, started, healed, restarted}
+use Rattle.drive.specs.Plant.{Plant, siAdr, scmd, withSiAdr, withMode, withScmd, started}
 use Rattle.drive.specs.Flags.{flagged, lowestFrom, lowestOf}
-use Rattle.drive.specs.Faults.{active, flagStands, runs, statusOf, flagRaised, without14, stopped}
-use Rattle.drive.specs.Events.{isFault, raised, ended, portFault, withActive}
+use Rattle.drive.specs.Status.{active, flagStands, runs, statusOf}
+use Rattle.drive.specs.Faults.{flagRaised, without14, stopped}
+use Rattle.drive.specs.Events.{healed, restarted, isFault, raised, ended, portFault, withActive}
 
 -- plants: at MODE 2 and 3, standing and running; and running at MODE 3 until fault 5 came, which then ended, or until the port's master was silent
 abbrev pub auto : Plant

@@ -1,16 +1,25 @@
--- Host events, and what a port's fault does to the drive. Assumes nothing.
+-- Restart, host events, and what a port's fault does to the drive. Assumes nothing.
 use mathlib.Core.Bool.{Bool, true, false}
 use Prim.Native.Nat.{ℕ}
 use lib.Dec.{eqb, leb}
 use lib.Bits.{bitOr, bitAnd}
-use lib.ListN.{set}
+use lib.ListN.{getD, set}
 use Rattle.base.specs.Choice.{pick, both, either}
 use Rattle.drive.specs.declared.events.Measured.{Measured}
 use Rattle.drive.specs.declared.events.Measured.the-variants.{Frq, Rms, Optime}
-use Rattle.table.specs.Names.{FrqAct, I-rms, OpTime}
-use Rattle.drive.specs.Plant.{Plant, mode, causes, withScmd, withDin1, withCauses}
+use Rattle.table.specs.Names.{MbAdr, FrqAct, I-rms, OpTime}
+use Rattle.drive.specs.Plant.{Plant, siAdr, mode, causes, withSiAdr, withMode, withScmd, withDin1, withCauses, withFlags, withStation}
 use Rattle.drive.specs.Flags.{only, allBut}
 use Rattle.drive.specs.Faults.{flagRaised}
+
+-- "A restart that finds 0 or 95 kept from before puts 1 there": SiAdr after a restart
+unfoldable pub healed : ℕ → ℕ
+healed address = pick (eqb address 0) 1 (pick (eqb address 95) 1 address)
+
+-- "Restart keeps rows 301 to 322, DIN1, causes and measured numbers", but for a SiAdr of 0 or 95; "flags become the standing causes; MODE 1, SCMD .. 0";
+-- "ours is what MbAdr held at the last start or restart"
+unfoldable pub restarted : Plant → Plant
+restarted p = withMode 1 (withScmd 0 (withFlags (causes p) (withSiAdr (healed (siAdr p)) (withStation (getD p MbAdr 0) p))))
 
 -- "Faults 1 to 13 and 16 to 23"
 unfoldable pub isFault : ℕ → Bool

@@ -3,9 +3,7 @@
 use mathlib.Core.Path.{_≡_}
 use mathlib.Core.List.{List, [], _∷_, _++_}
 use Prim.Native.Nat.{ℕ, _+_}
-use lib.Dec.{eqb}
 use lib.ListN.{length, getD, set}
-use Rattle.base.specs.Choice.{pick}
 use Rattle.table.specs.Names.{SiAdr, MbAdr, MODE, SCMD, rowCount}
 use Rattle.table.specs.Table.{startWords}
 
@@ -77,12 +75,3 @@ withStation x p = set p Station x
 -- ---- the column Start; "At start DIN1 is inactive and no cause stands"
 unfoldable pub started : Plant
 started = startWords ++ (0 ∷ 0 ∷ 0 ∷ getD startWords MbAdr 0 ∷ [])
-
--- "A restart that finds 0 or 95 kept from before puts 1 there": SiAdr after a restart
-unfoldable pub healed : ℕ → ℕ
-healed address = pick (eqb address 0) 1 (pick (eqb address 95) 1 address)
-
--- "Restart keeps rows 301 to 322, DIN1, causes and measured numbers", but for a SiAdr of 0 or 95; "flags become the standing causes; MODE 1, SCMD .. 0";
--- "ours is what MbAdr held at the last start or restart"
-unfoldable pub restarted : Plant → Plant
-restarted p = withMode 1 (withScmd 0 (withFlags (causes p) (withSiAdr (healed (siAdr p)) (withStation (getD p MbAdr 0) p))))

@@ -3,6 +3,7 @@
 mod events;
 mod faults;
 mod plant;
+mod status;
 
 pub use events::Measured;
 pub use events::end_cause;
@@ -12,9 +13,7 @@ pub use events::raise_fault;
 pub use events::set_din1;
 pub use faults::acknowledge;
 pub use faults::clear_14;
-pub use faults::flag_stands;
 pub use faults::only_14;
-pub use faults::running;
 pub use faults::stop;
 pub use plant::CAUSES;
 pub use plant::DIN1;
@@ -23,3 +22,5 @@ pub use plant::Plant;
 pub use plant::STATION;
 pub use plant::restart;
 pub use plant::start;
+pub use status::flag_stands;
+pub use status::running;

@@ -5,7 +5,8 @@ use table::names::ROWS;
 use table::names::SCMD;
 use table::names::SI_ADR;
 ghost use mathlib.Core.Path.{_≡_};
-ghost use Rattle.drive.specs.Plant.{started, healed, restarted};
+ghost use Rattle.drive.specs.Plant.{started};
+ghost use Rattle.drive.specs.Events.{healed, restarted};
 
 // Each row's word, two's complement, at its line in the table, and behind the rows the numbers that are no rows. Any words are a plant. The lines of Inv
 // St, which is worked out, and of SioErr, which is the port's, hold nothing.

@@ -12,6 +12,7 @@ use Rattle.port.specs.Port.{Parity, fresh}
 use Rattle.port.specs.Port as Ports
 use Rattle.drive.specs.Plant.{Plant}
 use Rattle.drive.specs.Plant as Plants
+use Rattle.drive.specs.Events as Drive
 use Rattle.drive.specs.Events.{Event, raised, ended, withActive, withMeasured}
 use Rattle.drive.specs.declared.events.Measured.{Measured}
 use Rattle.pending.specs.Held.{empty, emptied}
@@ -37,7 +38,7 @@ pub started-in : (n : ℕ) (k : Protocol) (q p : Plant) (i : Identity) → k ≡
 unfolding started empty
 started-in n k q p i a b d = simp (d, b, a)
 
-pub restarted-in : (len : ℕ) (q p y x : Plant) → y ≡ fresh (Ports.protocol q) → x ≡ Plants.restarted p → Restarts len q p 0 y x
+pub restarted-in : (len : ℕ) (q p y x : Plant) → y ≡ fresh (Ports.protocol q) → x ≡ Drive.restarted p → Restarts len q p 0 y x
 unfolding restarted emptied
 restarted-in len q p y x a b held i = simp (a, b)
 

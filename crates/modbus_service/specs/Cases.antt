@@ -10,7 +10,8 @@ use Rattle.identity.specs.Identity.{upTo, objectsAsked}
 use Rattle.identity.specs.declared.Part.the-variants.{Objects, Serial}
 use Rattle.drive.specs.Plant.{Plant, flags, started}
 use Rattle.drive.specs.Flags.{flagged, lowestFrom, lowestOf}
-use Rattle.drive.specs.Faults.{flagStands, statusOf, flagRaised, acknowledged}
+use Rattle.drive.specs.Status.{flagStands, statusOf}
+use Rattle.drive.specs.Faults.{flagRaised, acknowledged}
 use Rattle.drive.specs.Events.{isFault, raised, ended}
 use Rattle.answers.specs.Answer.{answerNumber}
 use Rattle.reading.specs.Read as Reading

@@ -11,7 +11,7 @@ use Rattle.answers.specs.Answer.{refusalNumber}
 use Rattle.answers.specs.declared.Refusal.{Refusal}
 use Rattle.answers.specs.declared.Refusal.the-variants.{NotPermitted}
 use Rattle.drive.specs.Plant.{Plant}
-use Rattle.drive.specs.Faults.{flagStands, runs}
+use Rattle.drive.specs.Status.{flagStands, runs}
 use Rattle.permit.specs.declared.Permit.the-variants.{Write, Refused}
 use Rattle.permit.specs.Refusals.{readOnly, allowed, isInit, initRunning, permitted, readLine, writeLines}
 use Rattle.permit.specs.Permit.{permitNumber, permitBy, permitOf}

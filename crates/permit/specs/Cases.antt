@@ -7,7 +7,8 @@ use Rattle.table.specs.Names.{P-Nom, I-magn, R-fix1, SpdScl-num, MODE, SCMD, In
 use Rattle.table.specs.Table.{rows, lineAt, startWords}
 use Rattle.allowed.specs.Allowed.{twos, integerOf, within, member, belowLimt, aboveMagn, atMode, setpointAllows, allows, allowedAt}
 use Rattle.drive.specs.Plant.{Plant, started}
-use Rattle.drive.specs.Faults.{active, flagStands, runs, flagRaised}
+use Rattle.drive.specs.Status.{active, flagStands, runs}
+use Rattle.drive.specs.Faults.{flagRaised}
 use Rattle.drive.specs.Events.{portFault, withActive}
 use Rattle.drive.specs.Cases.{bus, bus-runs, silent}
 use Rattle.permit.specs.Refusals.{readOnly, boundsOf, allowed, initRunning, permitted}

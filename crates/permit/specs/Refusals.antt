@@ -17,7 +17,7 @@ use Rattle.answers.specs.Answer.{refusalNumber}
 use Rattle.answers.specs.declared.Refusal.{Refusal}
 use Rattle.answers.specs.declared.Refusal.the-variants.{ReadOnly, NotAllowed, FlagStands, Running, NotPermitted}
 use Rattle.drive.specs.Plant.{Plant, mode}
-use Rattle.drive.specs.Faults.{active, flagStands, runs}
+use Rattle.drive.specs.Status.{active, flagStands, runs}
 
 -- ---- the column When
 -- 3: "row is read-only"

@@ -5,7 +5,8 @@ use borrow.Author.Tests.{eq-eqb, ne-eqb}
 use Rattle.table.specs.Names.{Inv-St-ack, Inv-St, SioErr}
 use Rattle.port.specs.Port.{Numbers, sioerr, withSioerr}
 use Rattle.drive.specs.Plant.{Plant}
-use Rattle.drive.specs.Faults.{statusOf, acknowledged, without14}
+use Rattle.drive.specs.Status.{statusOf}
+use Rattle.drive.specs.Faults.{acknowledged, without14}
 use Rattle.reading.specs.Read.{telling, stored, told}
 
 module _ (p : Plant) (q : Numbers) (row word : ℕ) where

@@ -6,7 +6,8 @@ use lib.ListN.{getD}
 use Rattle.table.specs.Names.{Inv-St-ack, Inv-St, SioErr, rowCount}
 use Rattle.port.specs.Port.{Numbers, sioerr, withSioerr}
 use Rattle.drive.specs.Plant.{Plant}
-use Rattle.drive.specs.Faults.{statusOf, acknowledged, without14}
+use Rattle.drive.specs.Status.{statusOf}
+use Rattle.drive.specs.Faults.{acknowledged, without14}
 use Rattle.reading.specs.Read.{telling, stored, told}
 
 -- a row that is stored tells its word, and the read changes nothing

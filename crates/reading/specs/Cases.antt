@@ -6,7 +6,8 @@ use Rattle.table.specs.Names.{P-Nom, Inv-St-ack, Inv-St, SioErr}
 use Rattle.table.specs.Table.{rows, startWords}
 use Rattle.drive.specs.Plant.{started}
 use Rattle.drive.specs.Flags.{flagged, lowestFrom, lowestOf}
-use Rattle.drive.specs.Faults.{active, flagStands, runs, statusOf, flagRaised, acknowledged, without14}
+use Rattle.drive.specs.Status.{active, flagStands, runs, statusOf}
+use Rattle.drive.specs.Faults.{flagRaised, acknowledged, without14}
 use Rattle.drive.specs.Events.{isFault, raised, ended, portFault, withActive}
 use Rattle.drive.specs.Cases.{faulty, over, silent}
 use Rattle.port.specs.Port.{Numbers, sioerr}

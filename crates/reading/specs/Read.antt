@@ -6,7 +6,8 @@ use Rattle.base.specs.Choice.{pick}
 use Rattle.table.specs.Names.{Inv-St-ack, Inv-St, SioErr, rowCount}
 use Rattle.port.specs.Port.{Numbers, sioerr, withSioerr}
 use Rattle.drive.specs.Plant.{Plant}
-use Rattle.drive.specs.Faults.{statusOf, acknowledged, without14}
+use Rattle.drive.specs.Status.{statusOf}
+use Rattle.drive.specs.Faults.{acknowledged, without14}
 
 -- the plant and the port after a read, and the word that it told
 pub record Told : Type 0 where

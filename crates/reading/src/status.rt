@@ -4,7 +4,7 @@ use drive::Plant;
 use table::names::MODE;
 ghost use mathlib.Core.Path.{_≡_};
 ghost use Rattle.drive.specs.Flags.{lowestOf};
-ghost use Rattle.drive.specs.Faults.{statusOf};
+ghost use Rattle.drive.specs.Status.{statusOf};
 
 // Inv St: the lowest flagged number, else the number of the MODE, standing or running.
 pub(crate) fn status_of(plant: &Plant) -> u32

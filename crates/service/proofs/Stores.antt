@@ -16,7 +16,7 @@ use Rattle.table.specs.Table.{rows, lineAt}
 use Rattle.table.proofs.Columns.{from-Inv-St}
 use Rattle.port.specs.Port.{Numbers}
 use Rattle.drive.specs.Plant.{Plant, Sized}
-use Rattle.drive.specs.Faults.{flagStands}
+use Rattle.drive.specs.Status.{flagStands}
 use Rattle.answers.specs.declared.Change.{Change}
 use Rattle.answers.specs.declared.Refusal.{Refusal}
 use Rattle.permit.specs.declared.Permit.{Permit}

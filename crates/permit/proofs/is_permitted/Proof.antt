@@ -1,7 +1,7 @@
 -- `permit::is_permitted` meets its contract: the tests are those of the definition, in its order. Assumes nothing.
 use borrow.Author.Needs.{needs}
 use Rattle.base.proofs.Tests.{tests}
-use Rattle.drive.specs.Faults.{active}
+use Rattle.drive.specs.Status.{active}
 use Rattle.permit.specs.Refusals.{permitted}
 use Rattle.permit.proofs.is_permitted.Statement.{statement}
 use Rattle.permit.proofs.is_permitted.Tie as tie

@@ -1,6 +1,6 @@
 -- `drive::heal` meets its contract: by its tests. Assumes nothing.
 use Rattle.base.proofs.Tests.{tests}
-use Rattle.drive.specs.Plant.{healed}
+use Rattle.drive.specs.Events.{healed}
 use Rattle.drive.proofs.plant.heal.Statement.{statement}
 use Rattle.drive.proofs.plant.heal.Tie as tie
 

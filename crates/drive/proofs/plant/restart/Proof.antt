@@ -1,6 +1,6 @@
 -- `drive::restart` meets its contract: SiAdr is what `heal` made of it. Assumes nothing.
 use borrow.Author.Needs.{needs}
-use Rattle.drive.specs.Plant.{restarted}
+use Rattle.drive.specs.Events.{restarted}
 use Rattle.drive.proofs.plant.restart.Statement.{statement}
 use Rattle.drive.proofs.plant.restart.Tie as tie
 

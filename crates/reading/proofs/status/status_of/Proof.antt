@@ -1,7 +1,7 @@
 -- `reading::status_of` meets its contract: the tests are those of the definition, in its order. Assumes nothing.
 use borrow.Author.Needs.{needs}
 use Rattle.base.proofs.Tests.{tests}
-use Rattle.drive.specs.Faults.{flagStands, statusOf}
+use Rattle.drive.specs.Status.{flagStands, statusOf}
 use Rattle.reading.proofs.status.status_of.Statement.{statement}
 use Rattle.reading.proofs.status.status_of.Tie as tie
 

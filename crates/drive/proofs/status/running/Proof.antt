@@ -1,8 +1,8 @@
 -- `drive::running` meets its contract: a law for each MODE. Assumes nothing.
 use borrow.Author.Needs.{needs}
 use Rattle.drive.proofs.Laws.{runs-auto, runs-inactive, runs-bus, runs-not}
-use Rattle.drive.proofs.faults.running.Statement.{statement}
-use Rattle.drive.proofs.faults.running.Tie as tie
+use Rattle.drive.proofs.status.running.Statement.{statement}
+use Rattle.drive.proofs.status.running.Tie as tie
 
 pub running-spec : {M : Type 1} → statement M
 running-spec =
