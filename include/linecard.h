@@ -40,17 +40,27 @@ enum card_outcome {
 #define CARD_REPLY_LEAST(protocol) ((protocol) == CARD_RTU ? CARD_RTU_REPLY : (protocol) == CARD_ASCII ? CARD_ASCII_REPLY : CARD_NFO_REPLY)
 
 /* The words of a plant: each row of the table at its line, two's complement, and behind the rows the numbers that are no rows. The paper's Mode and MODE are
- * CARD_MODE_SETTING and CARD_MODE. The words at Inv St, which is worked out, and at SioErr, which is the port's, hold nothing. */
+ * CARD_MODE_SETTING and CARD_MODE. The words at Inv St, which is worked out, and at SioErr, which is the port's, hold nothing. Drive Status is kept: each call that changes the
+ * drive leaves it right, by the bits of enum card_status. */
 enum card_word {
     CARD_P_NOM, CARD_U_NOM, CARD_F_NOM, CARD_N_NOM, CARD_COS_PHI, CARD_I_MAGN, CARD_I_LIMT, CARD_ACCEL,
     CARD_RETARD, CARD_MODE_SETTING, CARD_FR_MIN, CARD_FR_MAX, CARD_R_FIX1, CARD_REG_AMP, CARD_SI_BAUD, CARD_SI_PROT,
     CARD_SI_ADR, CARD_SIO_TOT, CARD_MB_ADR, CARD_SPD_SCL_NUM, CARD_SPD_SCL_DEN, CARD_SETPOINT, CARD_MODE, CARD_SCMD,
-    CARD_INV_ST_ACK, CARD_INV_ST, CARD_SIO_ERR, CARD_FRQ_ACT, CARD_I_RMS, CARD_OP_TIME,
+    CARD_INV_ST_ACK, CARD_INV_ST, CARD_SIO_ERR, CARD_FRQ_ACT, CARD_I_RMS, CARD_OP_TIME, CARD_DRIVE_STATUS,
     CARD_DIN1,    /* 0 is inactive */
     CARD_CAUSES,  /* bit n is fault n */
     CARD_FLAGS,   /* bit n is fault n */
     CARD_STATION, /* our Modbus address: what MbAdr held at the last start or restart */
     CARD_WORDS
+};
+
+/* The bits of Drive Status; the others are 0. */
+enum card_status {
+    CARD_READY = 0x0001,    /* MODE 3, DIN1 active, no flag */
+    CARD_RUNS = 0x0002,
+    CARD_FAULT = 0x0008,    /* a fault flag stands */
+    CARD_INACTIVE = 0x0040, /* DIN1 */
+    CARD_BUS = 0x0200       /* MODE 3 */
 };
 
 /* The numbers of a port: its protocol, its time sum in tenths, its SioErr. */
@@ -76,30 +86,30 @@ typedef struct card {
 } card;
 
 static_assert(sizeof(size_t) == 8, "x86-64");
-static_assert(CARD_WORDS == 34 && CARD_NUMBERS == 3 && CARD_IDENTITY == 41, "the arrays that the library is lent");
+static_assert(CARD_WORDS == 35 && CARD_NUMBERS == 3 && CARD_IDENTITY == 41, "the arrays that the library is lent");
 
 #ifdef __cplusplus
 extern "C" {
 #endif
 
 /* ---- what the library has: each is lent the parts of a card that it touches */
-void card_start_in(uint8_t held[512], size_t *len, uint32_t port[3], uint32_t plant[34], uint8_t identity[41], uint32_t protocol, const uint8_t given[41]);
-void card_restart_in(size_t *len, uint32_t port[3], uint32_t plant[34]);
-uint32_t card_raise_fault_in(uint32_t plant[34], uint32_t n);
-uint32_t card_end_cause_in(uint32_t plant[34], uint32_t n);
-uint32_t card_din1_in(uint32_t plant[34], uint32_t active);
-uint32_t card_frq_act_in(uint32_t plant[34], uint32_t word);
-uint32_t card_i_rms_in(uint32_t plant[34], uint32_t word);
-uint32_t card_op_time_in(uint32_t plant[34], uint32_t word);
-uint32_t card_parity_fault_in(uint32_t port[3], uint32_t plant[34]);
-uint32_t card_tick_in(uint32_t port[3], uint32_t plant[34], uint32_t tenths);
-uint32_t card_receive_in(uint8_t held[512], size_t *len, uint32_t port[3], uint32_t plant[34], const uint8_t identity[41],
+void card_start_in(uint8_t held[512], size_t *len, uint32_t port[3], uint32_t plant[35], uint8_t identity[41], uint32_t protocol, const uint8_t given[41]);
+void card_restart_in(size_t *len, uint32_t port[3], uint32_t plant[35]);
+uint32_t card_raise_fault_in(uint32_t plant[35], uint32_t n);
+uint32_t card_end_cause_in(uint32_t plant[35], uint32_t n);
+uint32_t card_din1_in(uint32_t plant[35], uint32_t active);
+uint32_t card_frq_act_in(uint32_t plant[35], uint32_t word);
+uint32_t card_i_rms_in(uint32_t plant[35], uint32_t word);
+uint32_t card_op_time_in(uint32_t plant[35], uint32_t word);
+uint32_t card_parity_fault_in(uint32_t port[3], uint32_t plant[35]);
+uint32_t card_tick_in(uint32_t port[3], uint32_t plant[35], uint32_t tenths);
+uint32_t card_receive_in(uint8_t held[512], size_t *len, uint32_t port[3], uint32_t plant[35], const uint8_t identity[41],
                          const uint8_t *bytes, size_t n_bytes, uint8_t *reply, size_t n_reply, size_t told[2]);
-uint32_t card_receive_nfo_in(uint8_t held[512], size_t *len, uint32_t port[3], uint32_t plant[34],
+uint32_t card_receive_nfo_in(uint8_t held[512], size_t *len, uint32_t port[3], uint32_t plant[35],
                              const uint8_t *bytes, size_t n_bytes, uint8_t *reply, size_t n_reply, size_t told[2]);
-uint32_t card_receive_rtu_in(uint8_t held[512], size_t *len, uint32_t port[3], uint32_t plant[34], const uint8_t identity[41],
+uint32_t card_receive_rtu_in(uint8_t held[512], size_t *len, uint32_t port[3], uint32_t plant[35], const uint8_t identity[41],
                              const uint8_t *bytes, size_t n_bytes, uint8_t *reply, size_t n_reply, size_t told[2]);
-uint32_t card_receive_ascii_in(uint8_t held[512], size_t *len, uint32_t port[3], uint32_t plant[34], const uint8_t identity[41],
+uint32_t card_receive_ascii_in(uint8_t held[512], size_t *len, uint32_t port[3], uint32_t plant[35], const uint8_t identity[41],
                                const uint8_t *bytes, size_t n_bytes, uint8_t *reply, size_t n_reply, size_t told[2]);
 
 /* Where the register data of a well-made RTU 06 or 16 lies in its frame, whatever its address: place[0] its first place, place[1] its length; for other

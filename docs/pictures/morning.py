@@ -138,7 +138,7 @@ class Call:
         self.bytes = bytes.fromhex(command.split()[2])
         self.outcome, self.used, length = int(words[0]), int(words[1]), int(words[2])
         self.reply = bytes.fromhex(words[3])[:length]
-        pending = state[1].split()[-1]
+        pending = state[1].split()[34]  # word 35 of the state line
         self.pending = b"" if pending == "-" else bytes.fromhex(pending)
 
 

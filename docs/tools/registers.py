@@ -15,8 +15,8 @@ TOP = os.path.dirname(os.path.dirname(os.path.dirname(os.path.abspath(__file__))
 HEADING = "## The registers"
 HEAD = ["Name", "E", "ADI", "Register", "Hex", "Width", "Written", "Allowed", "Start", "What it is"]
 
-# document 01's names where they are no single word
-NAMES = {"SpdScl-num": "SpdScl num", "SpdScl-den": "SpdScl den", "Inv-St-ack": "Inv St, ack", "Inv-St": "Inv St"}
+# the papers' names where they are no single word
+NAMES = {"SpdScl-num": "SpdScl num", "SpdScl-den": "SpdScl den", "Inv-St-ack": "Inv St, ack", "Inv-St": "Inv St", "Drive-Status": "Drive Status"}
 WRITTEN = {"Init": "standing", "Run": "always", "OnlyRead": "never"}
 
 # document 01 has no units: the card stores numbers. What they count is from its sources, S2 for rows with an E number and S1 for the others.
@@ -51,6 +51,7 @@ MEANING = {
     "FrqAct": "frequency, 0.1 Hz",
     "I-rms": "current, 0.001 A",
     "OpTime": "time in operation, 0.01 h",
+    "Drive Status": "status by bits; reading changes nothing",
 }
 
 

@@ -21,13 +21,13 @@ static const uint8_t given[CARD_IDENTITY + 1] = REVISION MODEL SERIAL;
 static_assert(sizeof REVISION == 17 + 1 && sizeof MODEL == 8 + 1 && sizeof SERIAL == 16 + 1, "an identity");
 
 #if defined ALL_FOR_NFO
-uint32_t exchanged_in(uint8_t held[512], size_t *len, uint32_t port[3], uint32_t plant[34],
+uint32_t exchanged_in(uint8_t held[512], size_t *len, uint32_t port[3], uint32_t plant[35],
                       const uint8_t *bytes, size_t n_bytes, uint8_t *reply, size_t n_reply, size_t told[2])
 {
     return card_receive_in(held, len, port, plant, given, bytes, n_bytes, reply, n_reply, told);
 }
 #elif defined NFO_FOR_ALL
-uint32_t exchanged_in(uint8_t held[512], size_t *len, uint32_t port[3], uint32_t plant[34], const uint8_t identity[41],
+uint32_t exchanged_in(uint8_t held[512], size_t *len, uint32_t port[3], uint32_t plant[35], const uint8_t identity[41],
                       const uint8_t *bytes, size_t n_bytes, uint8_t *reply, size_t n_reply, size_t told[2])
 {
     (void)identity;
@@ -87,6 +87,20 @@ static card fresh(uint32_t protocol)
     return c;
 }
 
+/* Drive Status by document 02: "0 ready (MODE 3, DIN1 active, no flag), 1 running, 3 a fault flag stands, 6 DIN1 inactive, 9 MODE 3; the others 0". */
+static uint32_t drive_status(const card *c)
+{
+    int bus = c->plant[CARD_MODE] == 3, active = c->plant[CARD_DIN1] != 0, flag = c->plant[CARD_FLAGS] != 0;
+    int running = (c->plant[CARD_MODE] == 2 && active && !flag) || (bus && c->plant[CARD_SCMD] != 0);
+    return (uint32_t)((bus && active && !flag) << 0 | running << 1 | flag << 3 | !active << 6 | bus << 9);
+}
+
+/* What a change of the drive leaves: "The word is stored". What changes nothing leaves it as it is, right or not. */
+static void righted(card *c)
+{
+    c->plant[CARD_DRIVE_STATUS] = drive_status(c);
+}
+
 /* A card that runs at MODE 3, with something in every part of it. */
 static card driving(void)
 {
@@ -100,6 +114,7 @@ static card driving(void)
     c.plant[CARD_FRQ_ACT] = 7;
     c.plant[CARD_I_RMS] = 8;
     c.plant[CARD_OP_TIME] = 9;
+    righted(&c);
     c.port.numbers[CARD_SUM] = 4;
     c.port.pending.bytes[0] = ':';
     c.port.pending.len = 1;
@@ -128,6 +143,7 @@ static void start(void)
         SAME(c.plant[CARD_FRQ_ACT], 0);
         SAME(c.plant[CARD_I_RMS], 0);
         SAME(c.plant[CARD_OP_TIME], 0);
+        SAME(c.plant[CARD_DRIVE_STATUS], 0x0040);
         SAME(c.plant[CARD_DIN1], 0);
         SAME(c.plant[CARD_CAUSES], 0);
         SAME(c.plant[CARD_FLAGS], 0);
@@ -161,6 +177,7 @@ static void restart(void)
     right.plant[CARD_MODE] = 1;
     right.plant[CARD_SCMD] = 0;
     right.plant[CARD_STATION] = 17;
+    righted(&right);
     right.port.numbers[CARD_SUM] = 0;
     right.port.numbers[CARD_SIOERR] = 0;
     right.port.pending.len = 0;
@@ -182,8 +199,10 @@ static void fault(uint32_t n)
     part = "raise fault";
     right.plant[CARD_CAUSES] |= bit;
     right.plant[CARD_FLAGS] |= bit;
-    if (known)
+    if (known) {
         right.plant[CARD_SCMD] = 0;
+        righted(&right);
+    }
     SAME(card_raise_fault(&c, n), outcome);
     same_card(&c, &right);
     SAME(card_raise_fault_in(d.plant, n), outcome);
@@ -210,6 +229,7 @@ static void din1(void)
         SAME(card_din1(&c, active), CARD_DONE);
         SAME(c.plant[CARD_DIN1] != 0, active != 0);
         right.plant[CARD_DIN1] = c.plant[CARD_DIN1];
+        righted(&right);
         same_card(&c, &right);
         SAME(card_din1_in(d.plant, active), CARD_DONE);
         same_card(&d, &right);
@@ -256,6 +276,7 @@ static void parity_fault(void)
         if (mode == 3) {
             right.plant[CARD_FLAGS] = 1u << 14;
             right.plant[CARD_SCMD] = 0;
+            righted(&right);
         }
         SAME(card_parity_fault(&c), CARD_DONE);
         same_card(&c, &right);
@@ -285,6 +306,7 @@ static void last_tenths(card c, uint32_t tenths)
     right.port.numbers[CARD_SIOERR] = 1;
     right.plant[CARD_FLAGS] = 1u << 14;
     right.plant[CARD_SCMD] = 0;
+    righted(&right);
     ticks(&c, &d, 1, CARD_DONE, &right);
 }
 
@@ -467,6 +489,16 @@ static void bytes_from_the_line(void)
     scraps("ASCII, small letters, in scraps", CARD_ASCII, TEXT(":010307000001f4\r\n"), 14, TEXT(":0103020001F9\r\n"));
 }
 
+/* The message of Modbus ASCII that these digits are, with its LRC; none for none. */
+static void message_of(char *out, const char *digits)
+{
+    unsigned sum = 0, byte;
+
+    for (const char *d = digits; sscanf(d, "%2X", &byte) == 1; d += 2)
+        sum += byte;
+    sprintf(out, ":%s%02X\r\n", digits, -sum & 0xFF);
+}
+
 /* ---- Inv St */
 /* A question to a card with nothing pending, by each function: what comes of it, and nothing changes. */
 static void asked(uint32_t protocol, const card *c, const char *bytes, size_t n, uint32_t outcome, const char *reply, size_t len)
@@ -526,6 +558,130 @@ static void statuses(void)
         c.plant[CARD_FLAGS] = UINT32_MAX << n;
         status_told(&c, n);
     }
+}
+
+/* ---- Drive Status */
+/* A message on Modbus ASCII, its LRC and its CR LF added, and the one that answers it, by each function, and what it leaves. */
+static void sent(const card *c, const char *request, uint32_t outcome, const char *answer, const card *right)
+{
+    char bytes[40], reply[40];
+
+    message_of(bytes, request);
+    message_of(reply, answer);
+    for (enum way way = 0; way < WAYS; way++) {
+        card d = *c, then = *right;
+        d.port.numbers[CARD_PROTOCOL] = then.port.numbers[CARD_PROTOCOL] = number_for(way, CARD_ASCII);
+        call(way, CARD_ASCII, &d, (const uint8_t *)bytes, strlen(bytes), CARD_ASCII_REPLY, outcome, strlen(bytes), reply, strlen(reply), &then);
+    }
+}
+
+/* Register 0258h tells the word that is stored, whatever it is, and changes nothing; a write of it is 3, and changes nothing. */
+static void word_told(const card *c)
+{
+    char answer[16];
+
+    snprintf(answer, sizeof answer, "010302%04X", (unsigned)c->plant[CARD_DRIVE_STATUS]);
+    sent(c, "010302580001", CARD_DONE, answer, c);
+    answer[3] = '4';
+    sent(c, "010402580001", CARD_DONE, answer, c);
+    sent(c, "010602580040", CARD_READ_ONLY, "018602", c);
+    sent(c, "011002580001020040", CARD_READ_ONLY, "019002", c);
+}
+
+/* A read of a row that clears flags: what it tells, and the flags and the word after it. Where it clears none, a word that the host put there stays. */
+static void cleared(card c, const char *request, uint32_t number, uint32_t flags)
+{
+    char answer[16];
+    card right = c;
+
+    snprintf(answer, sizeof answer, "010302%04X", (unsigned)number);
+    right.port.numbers[CARD_SIOERR] = strcmp(request, "010307180001") ? c.port.numbers[CARD_SIOERR] : 0;
+    right.plant[CARD_FLAGS] = flags;
+    if (flags != c.plant[CARD_FLAGS])
+        righted(&right);
+    sent(&c, request, CARD_DONE, answer, &right);
+}
+
+/* Each MODE, with a flag and without, SCMD 0 and 129, by DIN1 becoming active and then inactive. */
+static void words_by_din1(void)
+{
+    part = "Drive Status, by DIN1";
+    for (uint32_t n = 0; n < 12; n++) {
+        card c = fresh(CARD_ASCII), right;
+        c.plant[CARD_MODE] = 1 + n % 3;
+        c.plant[CARD_FLAGS] = n / 3 % 2 ? 1u << 5 : 0;
+        c.plant[CARD_SCMD] = n / 6 ? 129 : 0;
+        right = c;
+        right.plant[CARD_DIN1] = 1;
+        righted(&right);
+        SAME(card_din1(&c, 1), CARD_DONE);
+        same_card(&c, &right);
+        word_told(&c);
+        right.plant[CARD_DIN1] = right.plant[CARD_SCMD] = 0;
+        righted(&right);
+        SAME(card_din1(&c, 0), CARD_DONE);
+        same_card(&c, &right);
+        word_told(&c);
+    }
+}
+
+/* A card at MODE 3 that stands, with DIN1 active and nothing pending; its stored word is not right. */
+static card standing(void)
+{
+    card c = driving();
+    c.plant[CARD_SCMD] = 0;
+    c.plant[CARD_DRIVE_STATUS] = 0x1234;
+    c.port.numbers[CARD_SUM] = 0;
+    c.port.pending.len = 0;
+    return c;
+}
+
+/* Faults 3 and 5, of which 5's cause stands, and 14: by a read of Inv St, ack, and by one of SioErr. */
+static void words_by_reads(void)
+{
+    part = "Drive Status, by a read that clears flags";
+    for (uint32_t n = 0; n < 8; n++) {
+        card c = standing();
+        uint32_t three = n & 1, five = n >> 1 & 1, fourteen = n >> 2;
+        c.plant[CARD_CAUSES] = 1u << 5;
+        c.plant[CARD_FLAGS] = three << 3 | five << 5 | fourteen << 14;
+        c.port.numbers[CARD_SIOERR] = 1;
+        cleared(c, "010302A40001", three ? 3 : five ? 5 : fourteen ? 14 : 37, five << 5 | fourteen << 14);
+        cleared(c, "010307180001", 1, three << 3 | five << 5);
+    }
+}
+
+/* SCMD 257, MODE 2, Accel 100; and MODE 3 again, which changes nothing. */
+static void words_by_writes(void)
+{
+    static const struct { const char *bytes; size_t word; uint32_t value; } writes[] = {
+        { "010602980101", CARD_SCMD, 257 }, { "010602940002", CARD_MODE, 2 }, { "010606DC0064", CARD_ACCEL, 100 },
+    };
+    const card c = standing();
+
+    part = "Drive Status, by a write";
+    for (size_t k = 0; k < sizeof writes / sizeof writes[0]; k++) {
+        card right = c;
+        right.plant[writes[k].word] = writes[k].value;
+        righted(&right);
+        sent(&c, writes[k].bytes, CARD_DONE, writes[k].bytes, &right);
+    }
+    sent(&c, "010602940003", CARD_DONE, "010602940003", &c);
+}
+
+static void drive_statuses(void)
+{
+    card c = fresh(CARD_ASCII);
+
+    part = "Drive Status, the word that is stored";
+    word_told(&c);
+    for (uint32_t word = 1; word < 0x10000; word <<= 1) {
+        c.plant[CARD_DRIVE_STATUS] = word;
+        word_told(&c);
+    }
+    words_by_din1();
+    words_by_reads();
+    words_by_writes();
 }
 
 /* ---- SiAdr kept from before */
@@ -706,6 +862,7 @@ int main(void)
     limits();
     bytes_from_the_line();
     statuses();
+    drive_statuses();
     addresses_kept();
     identity_told();
     identity_refused();

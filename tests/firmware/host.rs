@@ -13,10 +13,11 @@ const SCMD: usize = 23;
 const FRQ_ACT: usize = 27;
 const I_RMS: usize = 28;
 const OP_TIME: usize = 29;
-const DIN1: usize = 30;
-const CAUSES: usize = 31;
-const FLAGS: usize = 32;
-const STATION: usize = 33;
+const DRIVE_STATUS: usize = 30;
+const DIN1: usize = 31;
+const CAUSES: usize = 32;
+const FLAGS: usize = 33;
+const STATION: usize = 34;
 
 /// The numbers of a port.
 const PROTOCOL: usize = 0;
@@ -35,25 +36,25 @@ struct Card {
     held: [u8; 512],
     len: usize,
     port: [u32; 3],
-    plant: [u32; 34],
+    plant: [u32; 35],
     identity: Identity,
 }
 
 extern "C" {
-    fn card_start_in(held: &mut [u8; 512], len: &mut usize, port: &mut [u32; 3], plant: &mut [u32; 34], identity: &mut Identity, protocol: u32, given: &Identity);
-    fn card_restart_in(len: &mut usize, port: &mut [u32; 3], plant: &mut [u32; 34]);
-    fn card_raise_fault_in(plant: &mut [u32; 34], n: u32) -> u32;
-    fn card_end_cause_in(plant: &mut [u32; 34], n: u32) -> u32;
-    fn card_din1_in(plant: &mut [u32; 34], active: u32) -> u32;
-    fn card_frq_act_in(plant: &mut [u32; 34], word: u32) -> u32;
-    fn card_i_rms_in(plant: &mut [u32; 34], word: u32) -> u32;
-    fn card_op_time_in(plant: &mut [u32; 34], word: u32) -> u32;
-    fn card_parity_fault_in(port: &mut [u32; 3], plant: &mut [u32; 34]) -> u32;
-    fn card_tick_in(port: &mut [u32; 3], plant: &mut [u32; 34], tenths: u32) -> u32;
-    fn card_receive_in(held: &mut [u8; 512], len: &mut usize, port: &mut [u32; 3], plant: &mut [u32; 34], identity: &Identity, bytes: *const u8, n_bytes: usize, reply: *mut u8, n_reply: usize, told: &mut [usize; 2]) -> u32;
-    fn card_receive_nfo_in(held: &mut [u8; 512], len: &mut usize, port: &mut [u32; 3], plant: &mut [u32; 34], bytes: *const u8, n_bytes: usize, reply: *mut u8, n_reply: usize, told: &mut [usize; 2]) -> u32;
-    fn card_receive_rtu_in(held: &mut [u8; 512], len: &mut usize, port: &mut [u32; 3], plant: &mut [u32; 34], identity: &Identity, bytes: *const u8, n_bytes: usize, reply: *mut u8, n_reply: usize, told: &mut [usize; 2]) -> u32;
-    fn card_receive_ascii_in(held: &mut [u8; 512], len: &mut usize, port: &mut [u32; 3], plant: &mut [u32; 34], identity: &Identity, bytes: *const u8, n_bytes: usize, reply: *mut u8, n_reply: usize, told: &mut [usize; 2]) -> u32;
+    fn card_start_in(held: &mut [u8; 512], len: &mut usize, port: &mut [u32; 3], plant: &mut [u32; 35], identity: &mut Identity, protocol: u32, given: &Identity);
+    fn card_restart_in(len: &mut usize, port: &mut [u32; 3], plant: &mut [u32; 35]);
+    fn card_raise_fault_in(plant: &mut [u32; 35], n: u32) -> u32;
+    fn card_end_cause_in(plant: &mut [u32; 35], n: u32) -> u32;
+    fn card_din1_in(plant: &mut [u32; 35], active: u32) -> u32;
+    fn card_frq_act_in(plant: &mut [u32; 35], word: u32) -> u32;
+    fn card_i_rms_in(plant: &mut [u32; 35], word: u32) -> u32;
+    fn card_op_time_in(plant: &mut [u32; 35], word: u32) -> u32;
+    fn card_parity_fault_in(port: &mut [u32; 3], plant: &mut [u32; 35]) -> u32;
+    fn card_tick_in(port: &mut [u32; 3], plant: &mut [u32; 35], tenths: u32) -> u32;
+    fn card_receive_in(held: &mut [u8; 512], len: &mut usize, port: &mut [u32; 3], plant: &mut [u32; 35], identity: &Identity, bytes: *const u8, n_bytes: usize, reply: *mut u8, n_reply: usize, told: &mut [usize; 2]) -> u32;
+    fn card_receive_nfo_in(held: &mut [u8; 512], len: &mut usize, port: &mut [u32; 3], plant: &mut [u32; 35], bytes: *const u8, n_bytes: usize, reply: *mut u8, n_reply: usize, told: &mut [usize; 2]) -> u32;
+    fn card_receive_rtu_in(held: &mut [u8; 512], len: &mut usize, port: &mut [u32; 3], plant: &mut [u32; 35], identity: &Identity, bytes: *const u8, n_bytes: usize, reply: *mut u8, n_reply: usize, told: &mut [usize; 2]) -> u32;
+    fn card_receive_ascii_in(held: &mut [u8; 512], len: &mut usize, port: &mut [u32; 3], plant: &mut [u32; 35], identity: &Identity, bytes: *const u8, n_bytes: usize, reply: *mut u8, n_reply: usize, told: &mut [usize; 2]) -> u32;
     fn card_register_data(frame: *const u8, n_frame: usize, place: &mut [usize; 2]);
 }
 
@@ -67,7 +68,7 @@ struct Host {
 
 /// Memory that holds 5Ah throughout, with a fresh card put over it: what was there before does not count.
 fn fresh(protocol: u32, given: &Identity) -> Card {
-    let mut card = Card { held: [0x5A; 512], len: 0x5A5A, port: [0x5A5A5A5A; 3], plant: [0x5A5A5A5A; 34], identity: [0x5A; 41] };
+    let mut card = Card { held: [0x5A; 512], len: 0x5A5A, port: [0x5A5A5A5A; 3], plant: [0x5A5A5A5A; 35], identity: [0x5A; 41] };
     unsafe { card_start_in(&mut card.held, &mut card.len, &mut card.port, &mut card.plant, &mut card.identity, protocol, given) };
     card
 }
@@ -162,7 +163,7 @@ impl Host {
         columns.extend([plant[FRQ_ACT] as i16 as i64, plant[I_RMS] as i32 as i64]);
         columns.extend([plant[OP_TIME], plant[DIN1], plant[CAUSES], plant[FLAGS], port[SUM], plant[STATION]].map(i64::from));
         let numbers: Vec<String> = columns.iter().map(i64::to_string).collect();
-        format!("{} {}", numbers.join(" "), hex(&self.card.held[..self.card.len]))
+        format!("{} {} {}", numbers.join(" "), hex(&self.card.held[..self.card.len]), plant[DRIVE_STATUS])
     }
 
     fn event(&mut self, what: &str, word: u32) -> u32 {

@@ -93,6 +93,16 @@ def status():
     return differs("README.md, Status", told, sorted(numbers))
 
 
+def drive_status():
+    """The bits of the definition's word, each with its mask, in README's table and in the header."""
+    word = re.search(r"\nstatusWord \w =\n(.*?)\n\n", text("crates/drive/specs/Status.antt"), re.S).group(1)
+    right = [(n, "%04Xh" % (1 << n)) for n in map(int, re.findall(r"\(bit (\d+) ", word))]
+    told = [(int(row[0]), row[1]) for row in cells("README.md", "Drive Status")]
+    listed = re.search(r"\nenum card_status \{\n(.*?)\n\};", text("include/linecard.h"), re.S).group(1)
+    masks = [mask + "h" for mask in re.findall(r" = 0x([0-9A-F]{4})\b", listed)]
+    return differs("README.md, Drive Status", told, right) + differs("linecard.h, card_status", masks, [mask for _, mask in right])
+
+
 def identity():
     """README's objects are those of the definition, and `line` is there who the masters of the test hear."""
     definition, masters = text("crates/identity/specs/Identity.antt"), text("tests/masters/steps.py")
@@ -240,7 +250,7 @@ def sessions():
     return faults + ["%s shows no session" % page for page in ("README.md", "docs/BENCH.md") if page not in seen]
 
 
-CHECKS = [registers, rooms, times, outcomes, status, identity, promises, picture_of_rooms, picture_of_the_morning, links, sessions]
+CHECKS = [registers, rooms, times, outcomes, status, drive_status, identity, promises, picture_of_rooms, picture_of_the_morning, links, sessions]
 
 
 def main():

@@ -21,7 +21,7 @@ P_NOM, N_NOM, I_MAGN, ACCEL, RETARD = register(301), register(304), register(306
 R_FIX1, SI_BAUD, SI_ADR, SIO_TOT, MB_ADR = register(313), register(315), register(317), register(318), register(319)
 SPD_NUM, SPD_DEN = register(320), register(321)
 MODE, SCMD, INV_ST_ACK, INV_ST = register(34), register(35), register(38), 0x02A5
-SIO_ERR, FRQ_ACT, I_RMS, OP_TIME = register(323), register(125), register(120), register(39)
+SIO_ERR, FRQ_ACT, I_RMS, OP_TIME, DRIVE_STATUS = register(323), register(125), register(120), register(39), register(19)
 
 
 class Step:
@@ -182,13 +182,15 @@ def identity(framed):
 
 def left_alone():
     """A master that is silent for longer than SioTot, 5 seconds from the start, at MODE 3: what it asks before, and after. The motor is stopped and 14 stands, until SioErr is read."""
-    before = [writes(ONE, MODE, 3), reads(READ, INV_ST, [37])]
+    before = [writes(ONE, MODE, 3), reads(READ, INV_ST, [37]), reads(READ, DRIVE_STATUS, [0x0240])]
     after = [
         reads(READ, INV_ST, [14]),
+        reads(READ, DRIVE_STATUS, [0x0248]),
         refused(5, ONE, ACCEL, [100]),
         reads(READ, INV_ST_ACK, [14]),  # which does not clear 14
         reads(READ, SIO_ERR, [1]),
         reads(READ, INV_ST, [37]),
+        reads(READ, DRIVE_STATUS, [0x0240]),
         reads(READ, SIO_ERR, [0]),
         writes(ONE, ACCEL, 100),
     ]
@@ -213,6 +215,9 @@ def steps(framed):
         reads(INPUT, MB_ADR, [1]),
         reads(READ, FRQ_ACT, [0]),
         reads(INPUT, SIO_ERR, [0]),
+        # `line` has no terminal, so DIN1 is inactive: bit 6
+        reads(READ, DRIVE_STATUS, [0x0040]),
+        reads(INPUT, DRIVE_STATUS, [0x0040]),
         # however slow this master is, it is not taken for dead
         reads(READ, SIO_TOT, [50]),
         writes(ONE, SIO_TOT, 0),
@@ -247,9 +252,12 @@ def steps(framed):
         refused(2, READ, SPD_NUM + 1, 1),
         refused(2, READ, INV_ST_ACK, 2),
         refused(2, ONE, SPD_DEN, [1]),
+        refused(2, READ, DRIVE_STATUS, 2),
         # read-only
         refused(3, ONE, FRQ_ACT, [5]),
         refused(3, MANY, OP_TIME, [1, 0]),
+        refused(3, ONE, DRIVE_STATUS, [0x0201]),
+        refused(3, MANY, DRIVE_STATUS, [0x0040]),
         # a value that is not allowed
         refused(4, ONE, MODE, [4]),
         refused(4, ONE, R_FIX1, [0xB1DF]),
@@ -261,6 +269,7 @@ def steps(framed):
         refused(7, ONE, SCMD, [0]),
         writes(ONE, MODE, 3),
         reads(READ, INV_ST, [37]),
+        reads(READ, DRIVE_STATUS, [0x0240]),
         writes(ONE, SCMD, 0),
         refused(7, ONE, SCMD, [129]),
         refused(7, ONE, SCMD, [257]),
@@ -270,4 +279,5 @@ def steps(framed):
         reads(READ, INV_ST_ACK, [37]),
         writes(ONE, MODE, 2),
         reads(READ, INV_ST, [33]),
+        reads(INPUT, DRIVE_STATUS, [0x0040]),
     ]

@@ -3,8 +3,8 @@
 
 Each program runs few rounds and more rounds; the difference of the two counts is what the rounds between cost, so that set-up is not counted. On x86-64 valgrind's
 callgrind counts; elsewhere the kit's emulator writes a line for each instruction that it runs, and the lines are counted. Each program prints a sum over the
-outcome, the used bytes and the reply's length of every call: the sums must be the same. Then a read of Inv St is counted, through the library, for some flags: each must
-be told. With --write all are counted and the two tables go to docs/SPEED.md; without, ours alone are counted, and must not be above the numbers there."""
+outcome, the used bytes and the reply's length of every call: the sums must be the same. Then a read of Inv St and one of Drive Status are counted, through the library, for
+some flags: each must be told. With --write all are counted and the two tables go to docs/SPEED.md; without, ours alone are counted, and must not be above the numbers there."""
 import os
 import platform
 import re
@@ -20,7 +20,9 @@ PAGE = os.path.join(TOP, "docs", "SPEED.md")
 ROUNDS = (1, 2)
 NAMES = {"nfo": "NFO serial", "ascii": "Modbus ASCII", "rtu": "Modbus RTU"}
 MESSAGES = 1000
-STATUS = {0: 24, 1: 1, 13: 13, 23: 23}  # a flag, or 0 for none, and what Inv St tells of a fresh card then
+# a flag, or 0 for none, and what Inv St and Drive Status tell of a fresh card then; and who asks for which
+STATUS = {0: (24, 0x0040), 1: (1, 0x0048), 13: (13, 0x0048), 23: (23, 0x0048)}
+READS = {"nfo": (0, "Inv St, NFO serial"), "rtu": (0, "Inv St, Modbus RTU"), "drive": (1, "Drive Status, Modbus RTU")}
 NATIVE = platform.machine() == "x86_64"
 COMPILER = "gcc" if NATIVE else "x86_64-linux-gnu-gcc"
 MARGIN = 1.01  # another build of the same compiler may move a few instructions
@@ -130,18 +132,18 @@ def table(folder, write, known):
 
 
 def status(folder):
-    """Instructions a read of Inv St, on NFO serial and on Modbus RTU, for each flag."""
+    """Instructions a read of Inv St, on NFO serial and on Modbus RTU, and of Drive Status, for each flag."""
     program = command(host(folder, "status"), False)
     rows = []
-    for flag, number in STATUS.items():
+    for flag, numbers in STATUS.items():
         counts = []
-        for protocol in ("nfo", "rtu"):
-            ours, said = a_message(folder, program, [protocol, str(flag)], "")
-            right = ["%s flag %d done %d told %d\n" % (protocol, flag, rounds * MESSAGES, number) for rounds in ROUNDS]
+        for asked, (which, _) in READS.items():
+            ours, said = a_message(folder, program, [asked, str(flag)], "")
+            right = ["%s flag %d done %d told %d\n" % (asked, flag, rounds * MESSAGES, numbers[which]) for rounds in ROUNDS]
             if said != right:
-                fail("a read of Inv St prints %r, and not %r" % (said, right))
+                fail("a read of the status prints %r, and not %r" % (said, right))
             counts.append(ours)
-        print("speed: a read of Inv St that tells %2d: %4.0f instructions on NFO serial, %4.0f on Modbus RTU" % (number, *counts))
+        print("speed: a read, flag %2d: " % flag + ", ".join("%s %.0f" % (name, n) for (_, name), n in zip(READS.values(), counts)))
         rows.append((flag, *counts))
     return rows
 
@@ -155,9 +157,9 @@ def written(rows):
 
 
 def status_written(rows):
-    out = ["| flag | NFO serial | Modbus RTU |", "|-|-|-|"]
-    for flag, nfo, rtu in rows:
-        out.append("| %s | %.0f | %.0f |" % (flag or "none", nfo, rtu))
+    out = ["| flag | " + " | ".join(name for _, name in READS.values()) + " |", "|-|" + "-|" * len(READS)]
+    for flag, *counts in rows:
+        out.append("| %s | " % (flag or "none") + " | ".join("%.0f" % n for n in counts) + " |")
     return "\n".join(out) + "\n"
 
 
@@ -198,9 +200,9 @@ def main():
     for (protocol, library, ours, _), stored in zip(rows, messages):
         not_above(protocol + ", a message through the library", library, stored[0])
         not_above(protocol + ", a message in Rattle", ours, stored[1])
-    for (flag, nfo, rtu), stored in zip(read, reads):
-        not_above("a read of Inv St, flag %d, on NFO serial" % flag, nfo, stored[-2])
-        not_above("a read of Inv St, flag %d, on Modbus RTU" % flag, rtu, stored[-1])
+    for (flag, *counts), stored in zip(read, reads):
+        for (_, name), ours, limit in zip(READS.values(), counts, stored[-len(READS):]):
+            not_above("a read of %s, flag %d" % (name, flag), ours, limit)
 
 
 main()

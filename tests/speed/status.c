@@ -1,5 +1,5 @@
-/* status nfo|rtu FLAG ROUNDS: reads Inv St 1000 times a round through the library, a whole message a call, of a card with one fault flag, or with none for 0.
- * Prints how many reads were done, and the word that the last of them told. */
+/* status nfo|rtu|drive FLAG ROUNDS: reads Inv St, on NFO serial or on Modbus RTU, or Drive Status, on Modbus RTU, 1000 times a round through the library, a whole message a
+ * call, of a card with one fault flag, or with none for 0. Prints how many reads were done, and the word that the last of them told. */
 #include <stdio.h>
 #include <stdlib.h>
 #include <string.h>
@@ -10,7 +10,7 @@ enum { READS = 1000 };
 
 int main(int argc, char **argv)
 {
-    static const uint8_t enquiry[] = "\4!E00E9\5", frame[] = { 1, 3, 0x02, 0xA5, 0, 1, 0x95, 0x91 };
+    static const uint8_t enquiry[] = "\4!E00E9\5", frame[] = { 1, 3, 0x02, 0xA5, 0, 1, 0x95, 0x91 }, drive[] = { 1, 3, 0x02, 0x58, 0, 1, 0x04, 0x61 };
     static const uint8_t identity[CARD_IDENTITY];
     uint8_t reply[CARD_RTU_REPLY] = { 0 };
     unsigned long done = 0;
@@ -19,10 +19,10 @@ int main(int argc, char **argv)
     card c;
 
     if (argc != 4) return 2;
-    int rtu = !strcmp(argv[1], "rtu");
+    int kept = !strcmp(argv[1], "drive"), rtu = kept || !strcmp(argv[1], "rtu");
     uint32_t flag = (uint32_t)strtoul(argv[2], NULL, 10);
     long rounds = strtol(argv[3], NULL, 10);
-    const uint8_t *message = rtu ? frame : enquiry;
+    const uint8_t *message = kept ? drive : rtu ? frame : enquiry;
     size_t n = rtu ? sizeof frame : sizeof enquiry - 1;
     card_start(&c, rtu ? CARD_RTU : CARD_NFO, identity);
     if (flag && card_raise_fault(&c, flag)) return 2;

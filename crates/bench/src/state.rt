@@ -40,6 +40,13 @@ fn show(held: &[u8; 512], len: usize, port: &Numbers, plant: &Plant) {
     let protocol = port[PROTOCOL];
     let words = &plant[..];
     let waiting = bench_words::first(held, len);
-    let n = bench_lines::state_line(&mut out, protocol, &words[P_NOM..MODE], &others, waiting);
+    let n = bench_lines::state_line(
+        &mut out,
+        protocol,
+        &words[P_NOM..MODE],
+        &others,
+        waiting,
+        plant[DRIVE_STATUS],
+    );
     bench_lines::end(&mut out, n);
 }

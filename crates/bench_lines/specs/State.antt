@@ -1,4 +1,4 @@
--- The state line: "35 words: 34 decimal numbers, then the pending bytes in HEX or `-`" (docs/BENCH.md). Assumes nothing.
+-- The state line: "36 words: 34 decimal numbers, the pending bytes in HEX or `-`, and a decimal number" (docs/BENCH.md). Assumes nothing.
 use mathlib.Core.Bool.{Bool}
 use mathlib.Core.List.{List, [], _∷_, _++_}
 use Prim.Native.Nat.{ℕ, suc, _%_}
@@ -22,6 +22,7 @@ unfoldable pub columnsOf : ℕ → List ℕ → List ℕ
 columnsOf k [] = []
 columnsOf k (w ∷ ws) = columnOf k w ++ (0x20 ∷ columnsOf (suc k) ws)
 
--- "1: protocol", "2 to 23", "24, 25, 26" and on, "35: pending bytes"
-unfoldable pub stateOf : ℕ → List ℕ → List ℕ → List ℕ → List ℕ
-stateOf protocol rows others pending = columnsOf 1 (protocol ∷ []) ++ (columnsOf 2 rows ++ (columnsOf 24 others ++ shown pending))
+-- "1: protocol", "2 to 23", "24, 25, 26" and on, "35: pending bytes", "36: the stored status word"
+unfoldable pub stateOf : ℕ → List ℕ → List ℕ → List ℕ → ℕ → List ℕ
+stateOf protocol rows others pending status =
+    columnsOf 1 (protocol ∷ []) ++ (columnsOf 2 rows ++ (columnsOf 24 others ++ (shown pending ++ (0x20 ∷ decimalOf status))))

@@ -7,11 +7,12 @@ use native.Mathlib.Omega.{arith}
 use lib.Dec.{eqb, ltb}
 use lib.ListN.{getD, set}
 use Rattle.base.proofs.Tests.{pick-both}
-use Rattle.table.specs.Names.{SiAdr, MbAdr, Mode, Setpoint, MODE, SCMD, FrqAct, I-rms, OpTime}
-use Rattle.drive.specs.Plant.{Plant, DIN1, Causes, Flags, Station, siAdr, mode, withSiAdr, withStation}
+use Rattle.table.specs.Names.{SiAdr, MbAdr, Mode, Setpoint, MODE, SCMD, FrqAct, I-rms, OpTime, Drive-Status}
+use Rattle.drive.specs.Plant.{Plant, DIN1, Causes, Flags, Station, siAdr, mode, flags, withSiAdr, withStation}
 use Rattle.drive.proofs.Laws.{healed-both}
-use Rattle.drive.specs.Faults.{flagRaised, acknowledged, without14, stopped}
-use Rattle.drive.specs.Events.{healed, restarted, isFault, Event, raised, ended, portFault, withActive, withMeasured}
+use Rattle.drive.specs.Status.{righted}
+use Rattle.drive.specs.Faults.{reflagged, halted, flagRaised, acknowledged, without14, stopped}
+use Rattle.drive.specs.Events.{healed, restarted, isFault, Event, raised, ended, portFault, switched, withActive, withMeasured}
 use Rattle.drive.specs.declared.events.Measured.{Measured}
 use Rattle.drive.specs.declared.events.Measured.the-variants.{Frq, Rms, Optime}
 use Rattle.permit.specs.Refusals.{allowed}
@@ -42,9 +43,21 @@ module _ (Q : ℕ → Type 0) (writes : (p : Plant) (w : ℕ) → allowed p SiAd
   past : (p : Plant) (i v : ℕ) → SiAdr < i → At p → At (set p i v)
   past p i v behind at = record { word = at-name Q p i SiAdr v (at .word) (λ e. absurd (omega (arith, e, behind))) }
 
+  righted-at : (p : Plant) → At p → At (righted p)
+  unfolding righted
+  righted-at p = past p Drive-Status _ (omega arith)
+
+  halted-at : (x : ℕ) (p : Plant) → At p → At (halted x p)
+  unfolding halted
+  halted-at x p at = righted-at _ (past _ SCMD 0 (omega arith) (past p Flags x (omega arith) at))
+
+  reflagged-at : (x : ℕ) (p : Plant) → At p → At (reflagged x p)
+  unfolding reflagged
+  reflagged-at x p at = pick-both At (eqb (flags p) x) (λ _. at) (λ _. righted-at _ (past p Flags x (omega arith) at))
+
   flag-at : (mask : ℕ) (p : Plant) → At p → At (flagRaised mask p)
   unfolding flagRaised
-  flag-at mask p at = past _ SCMD 0 (omega arith) (past p Flags _ (omega arith) at)
+  flag-at mask p = halted-at _ p
 
   raised-at : (n : ℕ) (p : Plant) → At p → At (raised n p .plant)
   unfolding raised
@@ -55,9 +68,9 @@ module _ (Q : ℕ → Type 0) (writes : (p : Plant) (w : ℕ) → allowed p SiAd
   ended-at n p at = pick-both (λ (e : Event). At (e .plant)) (isFault n) (λ _. past p Causes _ (omega arith) at) (λ _. at)
 
   active-at : (active : Bool) (p : Plant) → At p → At (withActive active p)
-  unfolding withActive
-  active-at true p at = past p DIN1 1 (omega arith) at
-  active-at false p at = past _ SCMD 0 (omega arith) (past p DIN1 0 (omega arith) at)
+  unfolding withActive switched
+  active-at true p at = righted-at _ (past p DIN1 1 (omega arith) at)
+  active-at false p at = righted-at _ (past _ SCMD 0 (omega arith) (past p DIN1 0 (omega arith) at))
 
   measured-at : (m : Measured) (p : Plant) → At p → At (withMeasured m p)
   unfolding withMeasured
@@ -71,7 +84,7 @@ module _ (Q : ℕ → Type 0) (writes : (p : Plant) (w : ℕ) → allowed p SiAd
 
   restarted-at : (p : Plant) → At p → At (restarted p)
   unfolding restarted
-  restarted-at p at = past _ MODE 1 (omega arith) (past _ SCMD 0 (omega arith) (past _ Flags _ (omega arith) there))
+  restarted-at p at = righted-at _ (past _ MODE 1 (omega arith) (past _ SCMD 0 (omega arith) (past _ Flags _ (omega arith) there)))
     where
       ours : Plant
       ours = withStation (getD p MbAdr 0) p
@@ -79,20 +92,17 @@ module _ (Q : ℕ → Type 0) (writes : (p : Plant) (w : ℕ) → allowed p SiAd
       there : At (withSiAdr (healed (siAdr p)) ours)
       there = record { word = at-name Q ours SiAdr SiAdr _ (past p Station _ (omega arith) at .word) (λ _. heals (siAdr p) (at .word)) }
 
-  flags-at : (p : Plant) (x : ℕ) → At p → At (set p Flags x)
-  flags-at p x = past p Flags x (omega arith)
-
   acknowledged-at : (p : Plant) → At p → At (acknowledged p)
   unfolding acknowledged
-  acknowledged-at p = flags-at p _
+  acknowledged-at p = reflagged-at _ p
 
   without14-at : (p : Plant) → At p → At (without14 p)
   unfolding without14
-  without14-at p = flags-at p _
+  without14-at p = reflagged-at _ p
 
   stopped-at : (p : Plant) → At p → At (stopped p)
   unfolding stopped
-  stopped-at p at = past _ SCMD 0 (omega arith) (without14-at p at)
+  stopped-at p = halted-at _ p
 
   -- a write that is not refused is allowed
   applied-at : (row w : ℕ) (p : Plant) → allowed p row w ≡ true → At p → At (applied row w p)
@@ -101,7 +111,8 @@ module _ (Q : ℕ → Type 0) (writes : (p : Plant) (w : ℕ) → allowed p SiAd
       let there : At (set p row w) = record { word = at-name Q p row SiAdr w (at .word) (λ e. writes p w (rw (← e) can)) } in
       pick-both At (ltb SCMD row) (λ _. at)
       (λ _. pick-both At (eqb (getD p row 0) w) (λ _. there)
-      (λ _. pick-both At (eqb row Mode) (λ _. past _ Setpoint 0 (omega arith) there) (λ _. pick-both At (eqb row MODE) (λ _. past _ SCMD 0 (omega arith) there) (λ _. there))))
+      (λ _. righted-at _
+      (pick-both At (eqb row Mode) (λ _. past _ Setpoint 0 (omega arith) there) (λ _. pick-both At (eqb row MODE) (λ _. past _ SCMD 0 (omega arith) there) (λ _. there)))))
 
   -- ---- each change
   changes : Changes At

@@ -11,13 +11,14 @@ use lib.ListN.{length, getD, length-set}
 use lib.Seq.{getD-set-same, getD-set-other}
 use Rattle.base.specs.Choice.{pick, both}
 use Rattle.base.proofs.Tests.{pick-both}
-use Rattle.table.specs.Names.{Mode, Setpoint, MODE, SCMD, Inv-St-ack, Inv-St, SioErr, rowCount}
+use Rattle.table.specs.Names.{Mode, Setpoint, MODE, SCMD, Inv-St-ack, Inv-St, SioErr, Drive-Status, rowCount}
 use Rattle.port.specs.Port.{Numbers, ProtocolAt, Sum, Sioerr, protocol, sum, sioerr, withSum, withSioerr}
 use Rattle.drive.specs.Plant.{Plant, DIN1, Causes, Flags, Station, scmd, din1, causes, flags, station, withFlags, withScmd}
 use Rattle.drive.specs.Flags.{flagged, only, allBut}
-use Rattle.drive.specs.Faults.{acknowledged, without14, stopped}
+use Rattle.drive.specs.Faults.{halted, acknowledged, without14, stopped}
 use Rattle.drive.proofs.Masks.{masks}
 use Rattle.drive.proofs.Flagging.{put-in, taken-out}
+use Rattle.drive.proofs.Righted.{righted-other}
 use Rattle.reading.specs.Read.{Told, stored, told}
 use Rattle.service.specs.Write.{applied}
 use Rattle.service.proofs.Stores.{stores-told, leaves, sets-setpoint, sets-scmd}
@@ -78,7 +79,7 @@ module _ (c : Card) (sound : Sound c) (d : Card) (then : Sound d) (row w : ℕ) 
   number-stays : (n : ℕ) → rowCount ≤ n → getD (d .plant) n 0 ≡ getD p n 0
   number-stays n h =
       ap (λ (x : Plant). getD x n 0) plant
-      ∙ leaves p row w n (λ e. absurd (omega (arith, e, low, h))) (λ _ _ e. absurd (omega (arith, e, h))) (λ _ _ e. absurd (omega (arith, e, h)))
+      ∙ leaves p row w n (λ e. absurd (omega (arith, e, low, h))) (λ e. absurd (omega (arith, e, h))) (λ _ _ e. absurd (omega (arith, e, h))) (λ _ _ e. absurd (omega (arith, e, h)))
 
   -- "A write of a different Mode also sets Setpoint to 0"
   setpoint-0 : row ≡ Mode → getD p Mode 0 ≢ w → told (applied row w p) (withSum 0 q) Setpoint .word ≡ 0
@@ -101,8 +102,8 @@ module _ (c : Card) (sound : Sound c) (d : Card) (then : Sound d) (row w : ℕ) 
         others = λ n k.
             unchanged c d sound then n
             (told-then n _
-            (told-same p (applied row w p) q (withSum 0 q) n (k .status .0) (k .status .1)
-            (λ _. leaves p row w n (k .other) (λ e x z. k .setpoint (e, x) z) (λ e x z. k .scmd (e, x) z)) (λ _. sioerr-stays q (sound .numbers))));
+            (told-same p (applied row w p) q (withSum 0 q) n (k .own .0) (k .own .1)
+            (λ _. leaves p row w n (k .other) (k .own .2) (λ e x z. k .setpoint (e, x) z) (λ e x z. k .scmd (e, x) z)) (λ _. sioerr-stays q (sound .numbers))));
         stays =
             record {
               protocol = ap protocol port ∙ getD-set-other q Sum ProtocolAt 0 0 (λ e. absurd (omega (arith, e)));
@@ -125,17 +126,17 @@ module _ (c : Card) (sound : Sound c) (d : Card) (then : Sound d) (only-one : fl
   q₀ = c .port .numbers
 
   -- SCMD is 0 where a flag stands
-  halted : scmd p₀ ≡ 0
-  halted = go (eqb (scmd p₀) 0) refl
+  standing : scmd p₀ ≡ 0
+  standing = go (eqb (scmd p₀) 0) refl
     where
       go : (t : Bool) → eqb (scmd p₀) 0 ≡ t → scmd p₀ ≡ 0
       go true e = eqb-true (scmd p₀) 0 e
       go false e = let none : flags p₀ ≡ 0 = sound .plant .commanded (eqb-false (scmd p₀) 0 e) .2 in absurd (omega (arith, none, only-one))
 
-  -- every number but the flags stays
-  stop-stays : (n : ℕ) → n ≢ Flags → getD (stopped p₀) n 0 ≡ getD p₀ n 0
-  unfolding stopped without14
-  stop-stays n other = go (eqb n SCMD) refl
+  -- every number but the flags and the word that is kept stays
+  stop-stays : (n : ℕ) → n ≢ Flags → n ≢ Drive-Status → getD (stopped p₀) n 0 ≡ getD p₀ n 0
+  unfolding stopped halted
+  stop-stays n other word = righted-other _ n word ∙ go (eqb n SCMD) refl
     where
       flags-other : getD (withFlags (bitAnd (flags p₀) (allBut 14)) p₀) n 0 ≡ getD p₀ n 0
       flags-other = getD-set-other p₀ Flags n _ 0 (λ e. absurd (other e))
@@ -143,17 +144,17 @@ module _ (c : Card) (sound : Sound c) (d : Card) (then : Sound d) (only-one : fl
       go : (t : Bool) → eqb n SCMD ≡ t → getD (withScmd 0 (withFlags (bitAnd (flags p₀) (allBut 14)) p₀)) n 0 ≡ getD p₀ n 0
       go true e =
           rw (eqb-true n SCMD e)
-          (getD-set-same (withFlags (bitAnd (flags p₀) (allBut 14)) p₀) SCMD 0 0 (omega (arith, length-set p₀ Flags (bitAnd (flags p₀) (allBut 14)), sound .plant .sized)) ∙ sym halted)
+          (getD-set-same (withFlags (bitAnd (flags p₀) (allBut 14)) p₀) SCMD 0 0 (omega (arith, length-set p₀ Flags (bitAnd (flags p₀) (allBut 14)), sound .plant .sized)) ∙ sym standing)
       go false e = getD-set-other (withFlags (bitAnd (flags p₀) (allBut 14)) p₀) SCMD n 0 0 (λ k. absurd (eqb-false n SCMD e k)) ∙ flags-other
 
   flags-0 : flags (stopped p₀) ≡ 0
-  unfolding stopped without14
+  unfolding stopped halted
   flags-0 =
-      getD-set-other (withFlags (bitAnd (flags p₀) (allBut 14)) p₀) SCMD Flags 0 0 (λ e. absurd (omega (arith, e)))
+      righted-other _ Flags (λ e. absurd (omega (arith, e))) ∙ getD-set-other (withFlags (bitAnd (flags p₀) (allBut 14)) p₀) SCMD Flags 0 0 (λ e. absurd (omega (arith, e)))
       ∙ getD-set-same p₀ Flags (bitAnd (flags p₀) (allBut 14)) 0 (omega (arith, sound .plant .sized)) ∙ ap (λ (f : ℕ). bitAnd f (allBut 14)) only-one
 
-  at-stop : (n : ℕ) → n ≢ Flags → getD (d .plant) n 0 ≡ getD p₀ n 0
-  at-stop n other = ap (λ (x : Plant). getD x n 0) plant ∙ stop-stays n other
+  at-stop : (n : ℕ) → n ≢ Flags → n ≢ Drive-Status → getD (d .plant) n 0 ≡ getD p₀ n 0
+  at-stop n other word = ap (λ (x : Plant). getD x n 0) plant ∙ stop-stays n other word
 
   pub stopped-is : StopLeaves c (record { row = record { 0 = SCMD }; word = 0 }) d
   stopped-is =
@@ -164,15 +165,15 @@ module _ (c : Card) (sound : Sound c) (d : Card) (then : Sound d) (only-one : fl
         sioerr = tells-word d then SioErr 0 (ap (λ (t : Told). t .word) (tells-sioerr (d .plant) (d .port .numbers)) ∙ ap sioerr port ∙ sioerr-0 q₀ (sound .numbers));
         others = λ n k status.
             unchanged c d sound then n
-            (told-same p₀ (d .plant) q₀ (d .port .numbers) n (status .0) (status .1) (λ l. at-stop n (λ e. absurd (omega (arith, e, l)))) (λ e. absurd (k e)));
+            (told-same p₀ (d .plant) q₀ (d .port .numbers) n (status .0) (status .1) (λ l. at-stop n (λ e. absurd (omega (arith, e, l))) (status .2)) (λ e. absurd (k e)));
         stays =
             record {
               protocol =
                   ap protocol port ∙ getD-set-other (withSioerr 0 q₀) Sum ProtocolAt 0 0 (λ e. absurd (omega (arith, e)))
                   ∙ getD-set-other q₀ Sioerr ProtocolAt 0 0 (λ e. absurd (omega (arith, e)));
-              station = at-stop Station (λ e. absurd (omega (arith, e)));
-              din1 = at-stop DIN1 (λ e. absurd (omega (arith, e)));
-              causes = at-stop Causes (λ e. absurd (omega (arith, e)));
+              station = at-stop Station (λ e. absurd (omega (arith, e))) (λ e. absurd (omega (arith, e)));
+              din1 = at-stop DIN1 (λ e. absurd (omega (arith, e))) (λ e. absurd (omega (arith, e)));
+              causes = at-stop Causes (λ e. absurd (omega (arith, e))) (λ e. absurd (omega (arith, e)));
               identity = who;
             };
         flags = ap flags plant ∙ flags-0;

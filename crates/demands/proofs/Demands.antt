@@ -6,6 +6,7 @@ use Rattle.demands.proofs.Host.{host}
 use Rattle.demands.proofs.Reached.{reached}
 use Rattle.demands.proofs.Silence.{silence-stops}
 use Rattle.demands.proofs.Effects.{effects}
+use Rattle.demands.proofs.Status.{status-kept}
 use Rattle.demands.proofs.Demand2.{demand-2}
 use Rattle.demands.proofs.Identity.{who-are-you}
 use Rattle.demands.proofs.Letters.{letters}
@@ -21,6 +22,7 @@ demands =
       reached = reached;
       silence = silence-stops;
       effects = effects;
+      status = status-kept;
       demand-2 = demand-2;
       identity = who-are-you;
       letters = letters;

@@ -9,7 +9,7 @@ use borrow.Author.Tests.{eqb-true, eqb-false, ne-eqb, not-false, ltb-true, ltb-f
 use lib.Dec.{eqb, ltb}
 use Rattle.base.specs.Choice.{pick, both, either}
 use Rattle.base.proofs.Tests.{both-out, below-at}
-use Rattle.table.specs.Names.{SCMD, Inv-St-ack, Inv-St, SioErr, rowCount}
+use Rattle.table.specs.Names.{SCMD, Inv-St-ack, Inv-St, SioErr, Drive-Status, rowCount}
 use Rattle.table.specs.Table.{Start, Word, NoWord, Line, rows, lineAt, startWords}
 use Rattle.table.specs.declared.labels.Row.{Row}
 use Rattle.table.proofs.Columns.{past-table}
@@ -19,7 +19,7 @@ use Rattle.identity.specs.declared.Part.{Part}
 use Rattle.drive.specs.Plant as Plants
 use Rattle.drive.specs.Plant.{Plant, mode, scmd, flags}
 use Rattle.drive.specs.Flags.{only, lowestOf}
-use Rattle.drive.specs.Status.{active, flagStands, runs, statusOf}
+use Rattle.drive.specs.Status.{active, flagStands, runs, statusOf, statusWord, Right}
 use Rattle.drive.specs.Faults.{only14}
 use Rattle.drive.proofs.Masks.{masks}
 use Rattle.answers.specs.declared.Answer.{Answer}
@@ -42,12 +42,13 @@ use Rattle.turn.specs.Turn.{Received, cardAfter, portAfter}
 use Rattle.receive.specs.Receive.{received}
 use Rattle.demands.specs.Calls.{receive, besides}
 use Rattle.demands.specs.Kept.{SoundPlant, SoundIdentity, Sound}
-use Rattle.demands.specs.Effects.{Tells, WriteLeaves, StopLeaves, ReadLeaves, InvSt, lowest, manual, auto-stands, auto-runs, bus-stands, bus-runs, Effects}
+use Rattle.demands.specs.Effects.{Tells, WriteLeaves, StopLeaves, ReadLeaves, InvSt, lowest, manual, auto-stands, auto-runs, bus-stands, bus-runs, DriveStatus, Effects}
 use Rattle.demands.proofs.Serving.{Came, not-ours, refused, told-row, wrote-row, identified, stop}
 use Rattle.demands.proofs.Kept.{kept}
 use Rattle.demands.proofs.Naming.{names}
 use Rattle.demands.proofs.Changing.{tells-word, wrote, stopped-is, read-leaves}
 use Rattle.demands.proofs.Coming.{comes}
+use Rattle.demands.proofs.DriveStatus.{word-says}
 
 -- ---- the answer says which of them it was
 -- a number for each case of an answer, and the change or the row that it carries
@@ -193,6 +194,17 @@ status c sound = (
   tells-word c sound Inv-St-ack _ (ap (λ (t : Told). t .word) (tells-ack (c .plant) (c .port .numbers))),
 )
 
+-- Drive Status tells the word that stands at its line
+drive-status : (c : Card) → Sound c → Right (c .plant) → (w : ℕ) × DriveStatus (c .plant) w × Tells c Drive-Status w
+drive-status c sound right = (
+  statusWord (c .plant),
+  word-says (c .plant),
+  tells-word c sound Drive-Status _
+      (ap (λ (t : Told). t .word)
+      (tells-stored (c .plant) (c .port .numbers) Drive-Status (omega arith) (λ e. omega (arith, e)) (λ e. omega (arith, e)) (λ e. omega (arith, e)))
+      ∙ right .word),
+)
+
 -- ---- the column Start
 -- what a read at start should tell: the row's word, or 24, "24 at MODE 1"
 abbrev startsRight : Start → ℕ → Bool
@@ -248,6 +260,7 @@ effects =
       row-told = λ c sound n l a b s. tells-word c sound n _ (ap (λ (t : Told). t .word) (tells-stored (c .plant) (c .port .numbers) n l a b s));
       status = status;
       sio-err = λ c sound. tells-word c sound SioErr _ (ap (λ (t : Told). t .word) (tells-sioerr (c .plant) (c .port .numbers)));
+      drive-status = drive-status;
       start = start;
       start-status = λ protocol i given. (start-status protocol i given Inv-St-ack refl (omega arith), start-status protocol i given Inv-St refl (omega arith));
     }

@@ -8,17 +8,19 @@ use borrow.Author.Tests.{eq-eqb, ne-eqb, lt-ltb, le-ltb}
 use lib.Bits.{bitOr, bitAnd}
 use lib.ListN.{length, getD, length-set}
 use lib.Seq.{getD-set-same, getD-set-other}
-use Rattle.table.specs.Names.{SiAdr, SioTot, MbAdr, MODE, SCMD}
+use Rattle.table.specs.Names.{SiAdr, SioTot, MbAdr, MODE, SCMD, Drive-Status, rowCount}
 use Rattle.table.specs.Table.{rows, startWords}
 use Rattle.port.specs.Port.{sum, sioerr}
 use Rattle.drive.specs.Plant as Plants
 use Rattle.drive.specs.Plant.{Plant, Sized, Flags, Station, siAdr, mode, causes, flags, withSiAdr, withMode, withScmd, withFlags, withStation}
 use Rattle.drive.specs.Flags.{only, allBut}
-use Rattle.drive.specs.Faults.{flagRaised}
+use Rattle.drive.specs.Status.{righted}
+use Rattle.drive.specs.Faults.{halted, flagRaised}
 use Rattle.drive.specs.Events as Drive
-use Rattle.drive.specs.Events.{healed, isFault, raised, ended, portFault, withActive, withMeasured}
+use Rattle.drive.specs.Events.{healed, isFault, raised, ended, portFault, switched, withActive, withMeasured}
 use Rattle.drive.proofs.Laws.{fault-small, healed-these, healed-others}
 use Rattle.drive.proofs.Flagging.{put-in, taken-out}
+use Rattle.drive.proofs.Righted.{righted-other}
 use Rattle.pending.proofs.Laws.{held-empty, held-emptied}
 use Rattle.identity.specs.Identity.{Identity}
 use Rattle.card.specs.State.{coreOf, withCore, cardSum, started, restarted, withPlant}
@@ -31,7 +33,7 @@ use Rattle.demands.specs.Host.{RaisesFlag, PortFaultLeaves, AtStart, Aft
 
 -- ---- faults
 flag-raised : (n : ℕ) (p : Plant) → n < 32 → RaisesFlag n p (flagRaised (only n) p)
-unfolding flagRaised
+unfolding flagRaised halted
 flag-raised n p small = (bitOr (flags p) (only n), λ k. put-in (flags p) n k small, refl)
 
 raise : (n : ℕ) (c : Card) → isFault n ≡ true
@@ -85,7 +87,7 @@ start : (protocol : Protocols.Protocol) (i : Identity) → AtStart protocol (sta
 unfolding started Plants.started startWords rows
 start protocol i = record { speaks = refl; pending = held-empty; sum = refl; din1 = refl; causes = refl; flags = refl }
 
--- ---- a restart sets five numbers, one after the other
+-- ---- a restart sets five numbers, one after the other, and then the word is made right
 module _ (c : Card) (sized : Sized (c .plant)) where
   abbrev p : Plant
   p = c .plant
@@ -99,43 +101,46 @@ module _ (c : Card) (sized : Sized (c .plant)) where
   abbrev reflagged : Plant
   reflagged = withFlags (causes p) addressed
 
-  abbrev halted : Plant
-  halted = withScmd 0 reflagged
+  abbrev halts : Plant
+  halts = withScmd 0 reflagged
 
-  ours-long : length ours ≡ 34
+  ours-long : length ours ≡ rowCount + 4
   ours-long = length-set p Station (getD p MbAdr 0) ∙ sized
 
-  addressed-long : length addressed ≡ 34
+  addressed-long : length addressed ≡ rowCount + 4
   addressed-long = length-set ours SiAdr (healed (siAdr p)) ∙ ours-long
 
-  reflagged-long : length reflagged ≡ 34
+  reflagged-long : length reflagged ≡ rowCount + 4
   reflagged-long = length-set addressed Flags (causes p) ∙ addressed-long
 
-  -- a number that is none of the last two, or three
-  past : (i : ℕ) → i ≢ MODE → i ≢ SCMD → getD (withMode 1 halted) i 0 ≡ getD reflagged i 0
-  past i m s = getD-set-other halted MODE i 1 0 m ∙ getD-set-other reflagged SCMD i 0 0 s
+  abbrev after : Plant
+  after = righted (withMode 1 halts)
 
-  past-flags : (i : ℕ) → i ≢ MODE → i ≢ SCMD → i ≢ Flags → getD (withMode 1 halted) i 0 ≡ getD addressed i 0
-  past-flags i m s f = past i m s ∙ getD-set-other addressed Flags i (causes p) 0 f
+  -- a number that is none of the last three, or four
+  past : (i : ℕ) → i ≢ MODE → i ≢ SCMD → i ≢ Drive-Status → getD after i 0 ≡ getD reflagged i 0
+  past i m s w = righted-other (withMode 1 halts) i w ∙ getD-set-other halts MODE i 1 0 m ∙ getD-set-other reflagged SCMD i 0 0 s
+
+  past-flags : (i : ℕ) → i ≢ MODE → i ≢ SCMD → i ≢ Flags → i ≢ Drive-Status → getD after i 0 ≡ getD addressed i 0
+  past-flags i m s f w = past i m s w ∙ getD-set-other addressed Flags i (causes p) 0 f
 
   pub restarted-address : siAdr (restarted c .plant) ≡ healed (siAdr p)
   unfolding restarted Drive.restarted
   restarted-address =
-      past-flags SiAdr (λ e. absurd (omega (arith, e))) (λ e. absurd (omega (arith, e))) (λ e. absurd (omega (arith, e)))
+      past-flags SiAdr (λ e. absurd (omega (arith, e))) (λ e. absurd (omega (arith, e))) (λ e. absurd (omega (arith, e))) (λ e. absurd (omega (arith, e)))
       ∙ getD-set-same ours SiAdr (healed (siAdr p)) 0 (omega (arith, ours-long))
 
   restart : AfterRestart c (restarted c)
   unfolding restarted Drive.restarted
   restart =
       record {
-        keeps = λ i a m s f o. past-flags i m s f ∙ getD-set-other ours SiAdr i (healed (siAdr p)) 0 a ∙ getD-set-other p Station i (getD p MbAdr 0) 0 o;
+        keeps = λ i a m s f o w. past-flags i m s f w ∙ getD-set-other ours SiAdr i (healed (siAdr p)) 0 a ∙ getD-set-other p Station i (getD p MbAdr 0) 0 o;
         healed = λ h. restarted-address ∙ healed-these (siAdr p) h;
         address = λ n m. restarted-address ∙ healed-others (siAdr p) n m;
-        flags = past Flags (λ e. absurd (omega (arith, e))) (λ e. absurd (omega (arith, e))) ∙ getD-set-same addressed Flags (causes p) 0 (omega (arith, addressed-long));
-        mode = getD-set-same halted MODE 1 0 (omega (arith, length-set reflagged SCMD 0, reflagged-long));
-        scmd = getD-set-other halted MODE SCMD 1 0 (λ e. absurd (omega (arith, e))) ∙ getD-set-same reflagged SCMD 0 0 (omega (arith, reflagged-long));
+        flags = past Flags (λ e. absurd (omega (arith, e))) (λ e. absurd (omega (arith, e))) (λ e. absurd (omega (arith, e))) ∙ getD-set-same addressed Flags (causes p) 0 (omega (arith, addressed-long));
+        mode = righted-other (withMode 1 halts) MODE (λ e. absurd (omega (arith, e))) ∙ getD-set-same halts MODE 1 0 (omega (arith, length-set reflagged SCMD 0, reflagged-long));
+        scmd = righted-other (withMode 1 halts) SCMD (λ e. absurd (omega (arith, e))) ∙ getD-set-other halts MODE SCMD 1 0 (λ e. absurd (omega (arith, e))) ∙ getD-set-same reflagged SCMD 0 0 (omega (arith, reflagged-long));
         station =
-            past-flags Station (λ e. absurd (omega (arith, e))) (λ e. absurd (omega (arith, e))) (λ e. absurd (omega (arith, e)))
+            past-flags Station (λ e. absurd (omega (arith, e))) (λ e. absurd (omega (arith, e))) (λ e. absurd (omega (arith, e))) (λ e. absurd (omega (arith, e)))
             ∙ getD-set-other ours SiAdr Station (healed (siAdr p)) 0 (λ e. absurd (omega (arith, e))) ∙ getD-set-same p Station (getD p MbAdr 0) 0 (omega (arith, sized));
         speaks = refl;
         pending = held-emptied (c .port .pending);
@@ -144,7 +149,7 @@ module _ (c : Card) (sized : Sized (c .plant)) where
       }
 
 pub host : Host
-unfolding din1Set withActive measuredSet withMeasured
+unfolding din1Set withActive switched measuredSet withMeasured
 host =
     record {
       start = start;

@@ -14,13 +14,13 @@ use lib.Seq.{getD-set-same, getD-set-other, set-out, set-getD, set-comm}
 use Rattle.base.specs.Choice.{either}
 use Rattle.base.proofs.Tests.{pick-both, both-out, either-out, not-both, below-at}
 use Rattle.table.specs.Table.{rows, startWords}
-use Rattle.table.specs.Names.{SiAdr, SioTot, MbAdr, Mode, Setpoint, MODE, SCMD, FrqAct, I-rms, OpTime}
+use Rattle.table.specs.Names.{SiAdr, SioTot, MbAdr, Mode, Setpoint, MODE, SCMD, FrqAct, I-rms, OpTime, Drive-Status}
 use Rattle.port.specs.Port.{Numbers, sum}
 use Rattle.drive.specs.Plant.{Plant, Sized, DIN1, Causes, Flags, Station, siAdr, mode, scmd, flags, causes, withSiAdr, withScmd, started}
 use Rattle.drive.specs.Flags.{flagged, only}
-use Rattle.drive.specs.Status.{active, flagStands}
-use Rattle.drive.specs.Faults.{flagRaised, acknowledged, without14, stopped}
-use Rattle.drive.specs.Events.{healed, restarted, isFault, Event, raised, ended, portFault, withActive, withMeasured}
+use Rattle.drive.specs.Status.{active, flagStands, righted}
+use Rattle.drive.specs.Faults.{reflagged, halted, flagRaised, acknowledged, without14, stopped}
+use Rattle.drive.specs.Events.{healed, restarted, isFault, Event, raised, ended, portFault, switched, withActive, withMeasured}
 use Rattle.drive.specs.declared.events.Measured.{Measured}
 use Rattle.drive.specs.declared.events.Measured.the-variants.{Frq, Rms, Optime}
 use Rattle.drive.proofs.Laws.{fault-small}
@@ -159,6 +159,11 @@ module _ (q : Numbers) where
         at-name (λ (x : ℕ). x ≡ 0) p i Flags v f (λ e. does Flags e (ran r Flags e (λ h. omega (arith, h)))),
       )
 
+  -- the word that is kept: nothing here asks for it
+  righted-keeps : (p : Plant) → Fits p → Fits (righted p)
+  unfolding righted
+  righted-keeps p keep = set-keeps p Drive-Status _ keep tt tt
+
   -- "SCMD becomes 0"
   scmd-keeps : (p : Plant) → Fits p → Fits (withScmd 0 p)
   scmd-keeps p keep = set-keeps p SCMD 0 keep (inl refl) (λ n. absurd (n refl))
@@ -187,10 +192,10 @@ module _ (q : Numbers) where
   -- ---- flags
   -- "SCMD becomes 0 when .. a fault flag is raised"
   raised-flag : (p : Plant) (n : ℕ) → n < 32 → FaultOr14 n → (n ≡ 14 → mode p ≡ 3) → Fits p → Fits (flagRaised (only n) p)
-  unfolding flagRaised
+  unfolding flagRaised halted
   raised-flag p n small new at-3 keep =
-      halted-keeps p Flags _ keep (λ h. omega (arith, h))
-      (only-with FaultOr14 (flags p) n small new (keep .0 .flags), λ b. go (either-out (flagged 14 (flags p)) (eqb 14 n) (sym (put-in (flags p) n 14 small (omega arith)) ∙ b)))
+      righted-keeps _ (halted-keeps p Flags _ keep (λ h. omega (arith, h))
+      (only-with FaultOr14 (flags p) n small new (keep .0 .flags), λ b. go (either-out (flagged 14 (flags p)) (eqb 14 n) (sym (put-in (flags p) n 14 small (omega arith)) ∙ b))))
     where
       go : (flagged 14 (flags p) ≡ true) ⊎ (eqb 14 n ≡ true) → mode p ≡ 3
       go (inl y) = keep .0 .bus y
@@ -203,18 +208,22 @@ module _ (q : Numbers) where
       (only-less FaultOr14 (flags p) rest (keep .0 .flags), λ b. keep .0 .bus (both-out (flagged 14 (flags p)) (flagged 14 rest) (sym (masks .common 14 (flags p) rest) ∙ b) .0))
       (λ r. ap (λ (x : ℕ). bitAnd x rest) (keep .0 .commanded r .2) ∙ and-zero-l rest)
 
+  reflagged-keeps : (p : Plant) (rest : ℕ) → Fits p → Fits (reflagged (bitAnd (flags p) rest) p)
+  unfolding reflagged
+  reflagged-keeps p rest keep = pick-both Fits (eqb (flags p) (bitAnd (flags p) rest)) (λ _. keep) (λ _. righted-keeps _ (cleared-keeps p rest keep))
+
   -- by a read of Inv St, by a read of SioErr, and by the broadcast stop
   pub acknowledged-keeps : (p : Plant) → Fits p → Fits (acknowledged p)
   unfolding acknowledged
-  acknowledged-keeps p = cleared-keeps p _
+  acknowledged-keeps p = reflagged-keeps p _
 
   pub without14-keeps : (p : Plant) → Fits p → Fits (without14 p)
   unfolding without14
-  without14-keeps p = cleared-keeps p _
+  without14-keeps p = reflagged-keeps p _
 
   pub stopped-keeps : (p : Plant) → Fits p → Fits (stopped p)
-  unfolding stopped
-  stopped-keeps p keep = scmd-keeps (without14 p) (without14-keeps p keep)
+  unfolding stopped halted
+  stopped-keeps p keep = righted-keeps _ (scmd-keeps _ (cleared-keeps p _ keep))
 
   -- ---- a write, beside a sum of 0
   module _ (zero : sum q ≡ 0) (p : Plant) (keep : Fits p) (row w : ℕ) (can : allowed p row w ≡ true) (calm : flagStands p ≡ false) (may : permitted p row w ≡ true) where
@@ -264,7 +273,7 @@ module _ (q : Numbers) where
     unfolding applied
     applied-keeps =
         pick-both Fits (ltb SCMD row) (λ _. keep)
-        (λ l. pick-both Fits (eqb (getD p row 0) w) (λ e. rw (← eqb-true (getD p row 0) w e, set-getD p row 0) keep) (λ _. followed-keeps l))
+        (λ l. pick-both Fits (eqb (getD p row 0) w) (λ e. rw (← eqb-true (getD p row 0) w e, set-getD p row 0) keep) (λ _. righted-keeps _ (followed-keeps l)))
 
   -- ---- the host's events
   -- "The host raises one (both set) or ends a cause (the flag stays)"
@@ -280,9 +289,9 @@ module _ (q : Numbers) where
 
   -- "SCMD becomes 0 when DIN1 goes inactive"
   pub active-keeps : (active : Bool) (p : Plant) → Fits p → Fits (withActive active p)
-  unfolding withActive
-  active-keeps true p keep = set-keeps p DIN1 1 keep tt (λ _. refl)
-  active-keeps false p keep = halted-keeps p DIN1 0 keep (λ h. omega (arith, h)) tt
+  unfolding withActive switched
+  active-keeps true p keep = righted-keeps _ (set-keeps p DIN1 1 keep tt (λ _. refl))
+  active-keeps false p keep = righted-keeps _ (halted-keeps p DIN1 0 keep (λ h. omega (arith, h)) tt)
 
   -- any number is right at the rows that the host sets
   pub measured-keeps : (m : Measured) (p : Plant) → Fits p → Fits (withMeasured m p)
@@ -301,9 +310,10 @@ module _ (q : Numbers) where
   pub restarted-keeps : (p : Plant) → Fits p → Fits (restarted p)
   unfolding restarted
   restarted-keeps p keep =
-      set-keeps _ MODE 1 (halted-keeps _ Flags (causes p) ours (λ h. omega (arith, h)) ((keep .0 .causes .0, λ k h e. inl (keep .0 .causes .1 k h e)), λ b. absurd (no-14 b)))
+      righted-keeps _
+      (set-keeps _ MODE 1 (halted-keeps _ Flags (causes p) ours (λ h. omega (arith, h)) ((keep .0 .causes .0, λ k h e. inl (keep .0 .causes .1 k h e)), λ b. absurd (no-14 b)))
       ((omega arith, omega arith), λ b. absurd (no-14 (sym (ap (flagged 14) then) ∙ b)))
-      (λ r. absurd (r (scmd-0 (set ready Flags (causes p)) (length-set ready Flags (causes p) ∙ ours .0 .sized))))
+      (λ r. absurd (r (scmd-0 (set ready Flags (causes p)) (length-set ready Flags (causes p) ∙ ours .0 .sized)))))
     where
       addressed : Plant
       addressed = set p Station (getD p MbAdr 0)

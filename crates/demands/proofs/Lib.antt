@@ -29,7 +29,9 @@ pub mod Host
 pub mod Kept
 pub mod Changing
 pub mod Coming
+pub mod DriveStatus
 pub mod Effects
+pub mod Status
 pub mod Reached
 pub mod Silence
 pub mod Identity

@@ -12,13 +12,14 @@ use lib.ListN.{length, getD, set, length-set, replicate}
 use lib.Seq.{getD-set-same, getD-set-other}
 use Rattle.base.specs.Choice.{either}
 use Rattle.base.proofs.Tests.{either-left, either-right, not-yes}
-use Rattle.table.specs.Names.{SioTot, MODE, SCMD, FrqAct, I-rms, OpTime}
+use Rattle.table.specs.Names.{SioTot, MODE, SCMD, FrqAct, I-rms, OpTime, Drive-Status}
 use Rattle.table.specs.Table.{rows, startWords}
 use Rattle.port.specs.Port.{Numbers, Sum, Sioerr, sum, sioerr, withSioerr}
 use Rattle.drive.specs.Plant as Plants
 use Rattle.drive.specs.Plant.{Plant, Sized, DIN1, Causes, Flags, mode, flags, withDin1, withCauses}
 use Rattle.drive.specs.Flags.{flagged}
-use Rattle.drive.specs.Status.{runs}
+use Rattle.drive.specs.Status.{runs, righted}
+use Rattle.drive.proofs.Righted.{righted-other}
 use Rattle.drive.specs.Events.{isFault}
 use Rattle.drive.specs.declared.events.Measured.{Measured}
 use Rattle.drive.specs.declared.events.Measured.the-variants.{Frq, Rms, Optime}
@@ -78,18 +79,23 @@ module _ (tot : ℕ) (out : Bool) where
         flag-14 = at-name (λ (x : ℕ). out ≡ true → flagged 14 x ≡ true) p i Flags v (g .flag-14) in-flags;
       }
 
-  -- a flag is raised, and SCMD becomes 0
-  flag-guarded : (n : ℕ) (p after : Plant) → RaisesFlag n p after → Guarded p → Guarded after
-  flag-guarded n p after (x, put, e) g =
-      subst Guarded (sym e)
-      (set-guarded (set p Flags x) SCMD 0
-      (set-guarded p Flags x g (λ h. omega (arith, h)) (λ h. omega (arith, h)) (λ h. absurd (omega (arith, h))) (λ _ o. stays-in n 14 (flags p) x (omega arith) put (g .flag-14 o)))
-      (λ h. omega (arith, h)) (λ h. omega (arith, h)) (λ _. refl) (λ h. absurd (omega (arith, h))))
-
   -- a number that none of this asks for: behind SCMD stand those and the flags
   free-guarded : (p : Plant) (i v : ℕ) → SCMD < i → i ≢ Flags → Guarded p → Guarded (set p i v)
   free-guarded p i v behind other g =
       set-guarded p i v g (λ e. omega (arith, e, behind)) (λ e. omega (arith, e, behind)) (λ e. absurd (omega (arith, e, behind))) (λ e. absurd (other e))
+
+  -- the word that is kept is such a number
+  righted-guarded : (p : Plant) → Guarded p → Guarded (righted p)
+  unfolding righted
+  righted-guarded p = free-guarded p Drive-Status _ (omega arith) (λ h. omega (arith, h))
+
+  -- a flag is raised, and SCMD becomes 0
+  flag-guarded : (n : ℕ) (p after : Plant) → RaisesFlag n p after → Guarded p → Guarded after
+  flag-guarded n p after (x, put, e) g =
+      subst Guarded (sym e)
+      (righted-guarded _ (set-guarded (set p Flags x) SCMD 0
+      (set-guarded p Flags x g (λ h. omega (arith, h)) (λ h. omega (arith, h)) (λ h. absurd (omega (arith, h))) (λ _ o. stays-in n 14 (flags p) x (omega arith) put (g .flag-14 o)))
+      (λ h. omega (arith, h)) (λ h. omega (arith, h)) (λ _. refl) (λ h. absurd (omega (arith, h)))))
 
   -- ---- the port's numbers and the plant
   record Watched (q : Numbers) (p : Plant) : Type 0 where
@@ -154,13 +160,13 @@ module _ (tot : ℕ) (out : Bool) where
 
   -- DIN1 and the measured numbers
   din1-passes : (active : Bool) (c : Card) → Passes c (din1Set active c .card)
-  din1-passes true c = rw (host .active c) (plant-passes c _ (free-guarded (c .plant) DIN1 1 (omega arith) (λ h. omega (arith, h))))
+  din1-passes true c = rw (host .active c) (plant-passes c _ (λ g. righted-guarded _ (free-guarded (c .plant) DIN1 1 (omega arith) (λ h. omega (arith, h)) g)))
   din1-passes false c =
       rw (host .inactive c)
       (plant-passes c _
-      (λ g.
-      set-guarded (withDin1 0 (c .plant)) SCMD 0 (free-guarded (c .plant) DIN1 0 (omega arith) (λ h. omega (arith, h)) g)
-      (λ h. omega (arith, h)) (λ h. omega (arith, h)) (λ _. refl) (λ h. absurd (omega (arith, h)))))
+      (λ g. righted-guarded _
+      (set-guarded (withDin1 0 (c .plant)) SCMD 0 (free-guarded (c .plant) DIN1 0 (omega arith) (λ h. omega (arith, h)) g)
+      (λ h. omega (arith, h)) (λ h. omega (arith, h)) (λ _. refl) (λ h. absurd (omega (arith, h))))))
 
   measure-passes : (measured : Measured) (c : Card) → Passes c (measuredSet measured c .card)
   measure-passes (Frq w) c = rw (host .frq-act w c) (plant-passes c _ (free-guarded (c .plant) FrqAct w (omega arith) (λ h. omega (arith, h))))
@@ -178,8 +184,8 @@ module _ (tot : ℕ) (out : Bool) where
         sized = kept .sized;
         mode = kept .mode;
         limit = kept .limit;
-        scmd = λ _. rw is (getD-set-same (set p Flags x) SCMD 0 0 (omega (arith, length-set p Flags x, g .sized)));
-        flag-14 = λ _. rw (is, getD-set-other (set p Flags x) SCMD Flags 0 0 (λ h. omega (arith, h)), getD-set-same p Flags x 0 (omega (arith, g .sized))) (now-in 14 (flags p) x (omega arith) put);
+        scmd = λ _. rw is (righted-other _ SCMD (λ h. omega (arith, h)) ∙ getD-set-same (set p Flags x) SCMD 0 0 (omega (arith, length-set p Flags x, g .sized)));
+        flag-14 = λ _. rw (is, righted-other (set (set p Flags x) SCMD 0) Flags (λ h. omega (arith, h)), getD-set-other (set p Flags x) SCMD Flags 0 0 (λ h. omega (arith, h)), getD-set-same p Flags x 0 (omega (arith, g .sized))) (now-in 14 (flags p) x (omega arith) put);
       }
 
   -- its bit in SioErr is put in; `after` is whether the time is out then

@@ -1,5 +1,5 @@
 -- Document 01's ★ cases and case 9, the errors that it says to rule out, small letters, an exchange of RTU, a 32-bit row written and read back over ASCII, the
--- time-out that is on from the start, SiAdr at its limits, and the card's identity: one table, one statement. "Fresh start, address 1, unless said". Assumes nothing.
+-- time-out that is on from the start, SiAdr at its limits, the status word that is kept, and the card's identity: one table, one statement. "Fresh start, address 1, unless said". Assumes nothing.
 use mathlib.Core.Path.{_≡_}
 use mathlib.Core.Bool.{true}
 use mathlib.Core.List.{List, [], _∷_, _++_, map}
@@ -150,6 +150,39 @@ to-95 = 0x30 ∷ 0x30 ∷ 0x35 ∷ 0x46 ∷ 0x03 ∷ 0x70 ∷ []
 abbrev pub status-24 : ℕ → List ℕ
 status-24 address = (address + 32) ∷ 0x02 ∷ 0x45 ∷ 0x30 ∷ 0x30 ∷ 0x45 ∷ 0x39 ∷ 0x3D ∷ 0x30 ∷ 0x30 ∷ 0x31 ∷ 0x38 ∷ 0x03 ∷ 0x0E ∷ []
 
+-- ---- Modbus RTU
+-- a read of Drive Status, 0258h; MODE 3 and SCMD 129 by 06, which the replies repeat
+abbrev pub ask-drive : List ℕ
+ask-drive = 0x01 ∷ 0x03 ∷ 0x02 ∷ 0x58 ∷ 0x00 ∷ 0x01 ∷ 0x04 ∷ 0x61 ∷ []
+
+abbrev pub rtu-mode-3 : List ℕ
+rtu-mode-3 = 0x01 ∷ 0x06 ∷ 0x02 ∷ 0x94 ∷ 0x00 ∷ 0x03 ∷ 0x89 ∷ 0x9F ∷ []
+
+abbrev pub rtu-scmd-129 : List ℕ
+rtu-scmd-129 = 0x01 ∷ 0x06 ∷ 0x02 ∷ 0x98 ∷ 0x00 ∷ 0x81 ∷ 0xC9 ∷ 0xFD ∷ []
+
+-- Drive Status is told, by its number; and 1, of any row
+abbrev pub drive-0000 : List ℕ
+drive-0000 = 0x01 ∷ 0x03 ∷ 0x02 ∷ 0x00 ∷ 0x00 ∷ 0xB8 ∷ 0x44 ∷ []
+
+abbrev pub drive-0040 : List ℕ
+drive-0040 = 0x01 ∷ 0x03 ∷ 0x02 ∷ 0x00 ∷ 0x40 ∷ 0xB9 ∷ 0xB4 ∷ []
+
+abbrev pub drive-0048 : List ℕ
+drive-0048 = 0x01 ∷ 0x03 ∷ 0x02 ∷ 0x00 ∷ 0x48 ∷ 0xB8 ∷ 0x72 ∷ []
+
+abbrev pub drive-0201 : List ℕ
+drive-0201 = 0x01 ∷ 0x03 ∷ 0x02 ∷ 0x02 ∷ 0x01 ∷ 0x78 ∷ 0xE4 ∷ []
+
+abbrev pub drive-0203 : List ℕ
+drive-0203 = 0x01 ∷ 0x03 ∷ 0x02 ∷ 0x02 ∷ 0x03 ∷ 0xF9 ∷ 0x25 ∷ []
+
+abbrev pub drive-0208 : List ℕ
+drive-0208 = 0x01 ∷ 0x03 ∷ 0x02 ∷ 0x02 ∷ 0x08 ∷ 0xB8 ∷ 0xE2 ∷ []
+
+abbrev pub told-1 : List ℕ
+told-1 = 0x01 ∷ 0x03 ∷ 0x02 ∷ 0x00 ∷ 0x01 ∷ 0x79 ∷ 0x84 ∷ []
+
 -- ---- Modbus ASCII
 -- the characters of a message, `:` before and CR LF behind
 abbrev pub line : List ℕ → List ℕ
@@ -258,7 +291,7 @@ cases =
     (says 2 (line (refused-1 ++ (0x30 ∷ 0x32 ∷ 0x37 ∷ 0x41 ∷ []))) ∷ [])
     ∷ broadcast-read Ascii (line (0x30 ∷ 0x30 ∷ 0x30 ∷ 0x33 ∷ 0x30 ∷ 0x32 ∷ 0x61 ∷ 0x34 ∷ 0x30 ∷ 0x30 ∷ 0x30 ∷ 0x31 ∷ 0x35 ∷ 0x36 ∷ []))
     -- RTU: MODE is read, with MB's CRC low byte first
-    ∷ rtu (0x01 ∷ 0x03 ∷ 0x02 ∷ 0x94 ∷ 0x00 ∷ 0x01 ∷ 0xC4 ∷ 0x5E ∷ []) (says 0 (0x01 ∷ 0x03 ∷ 0x02 ∷ 0x00 ∷ 0x01 ∷ 0x79 ∷ 0x84 ∷ []) ∷ [])
+    ∷ rtu (0x01 ∷ 0x03 ∷ 0x02 ∷ 0x94 ∷ 0x00 ∷ 0x01 ∷ 0xC4 ∷ 0x5E ∷ []) (says 0 told-1 ∷ [])
     -- ASCII: a 16 of 1000000, F4240h, to SpdScl num, "32-bit values low word first", and a read of it
     ∷ ascii (spelt (0x01 ∷ 0x10 ∷ 0x07 ∷ 0x0C ∷ 0x00 ∷ 0x02 ∷ 0x04 ∷ 0x42 ∷ 0x40 ∷ 0x00 ∷ 0x0F ∷ 0x45 ∷ []) ++ spelt (0x01 ∷ 0x03 ∷ 0x07 ∷ 0x0C ∷ 0x00 ∷ 0x02 ∷ 0xE7 ∷ []))
     (says 0 (spelt (0x01 ∷ 0x10 ∷ 0x07 ∷ 0x0C ∷ 0x00 ∷ 0x02 ∷ 0xDA ∷ []))
@@ -286,10 +319,10 @@ cases =
     ∷ record {
       card = fresh Rtu;
       events =
-          came (0x01 ∷ 0x06 ∷ 0x02 ∷ 0x94 ∷ 0x00 ∷ 0x03 ∷ 0x89 ∷ 0x9F ∷ []) ∷ tick 50 ∷ came (0x01 ∷ 0x06 ∷ 0x02 ∷ 0x94 ∷ 0x00 ∷ 0x03 ∷ 0x89 ∷ 0x9E ∷ []) ∷ tick 1
+          came rtu-mode-3 ∷ tick 50 ∷ came (0x01 ∷ 0x06 ∷ 0x02 ∷ 0x94 ∷ 0x00 ∷ 0x03 ∷ 0x89 ∷ 0x9E ∷ []) ∷ tick 1
           ∷ came (0x01 ∷ 0x03 ∷ 0x02 ∷ 0xA5 ∷ 0x00 ∷ 0x01 ∷ 0x95 ∷ 0x91 ∷ []) ∷ [];
       right =
-          showing (says 0 (0x01 ∷ 0x06 ∷ 0x02 ∷ 0x94 ∷ 0x00 ∷ 0x03 ∷ 0x89 ∷ 0x9F ∷ []) ∷ says 0 (0x01 ∷ 0x03 ∷ 0x02 ∷ 0x00 ∷ 0x0E ∷ 0x39 ∷ 0x80 ∷ []) ∷ []) (2 ^ 14);
+          showing (says 0 rtu-mode-3 ∷ says 0 (0x01 ∷ 0x03 ∷ 0x02 ∷ 0x00 ∷ 0x0E ∷ 0x39 ∷ 0x80 ∷ []) ∷ []) (2 ^ 14);
     }
     -- "That becomes the allowed range": SiAdr 94 is written, and the card answers to 94 from the next message on, to 0, and no more to 1; 1 is written;
     ∷ case (si-adr ++ (to-94 ++ (asksStatus 94 ++ (asksStatus 0 ++ asksStatus 1)))) (says 0 ack ∷ says 0 (status-24 94) ∷ says 0 (status-24 0) ∷ says 1 [] ∷ [])
@@ -304,6 +337,27 @@ cases =
     ∷ holding 0 (asksStatus 1) (says 1 [] ∷ []) (asksStatus 1 ++ asksStatus 0) (says 0 (status-24 1) ∷ says 0 (status-24 0) ∷ [])
     -- and any other number stays
     ∷ holding 94 (asksStatus 94) (says 0 (status-24 94) ∷ []) (asksStatus 94 ++ asksStatus 1) (says 0 (status-24 94) ∷ says 1 [] ∷ [])
+    -- Drive Status, "register 0258h": at start DIN1 is inactive; "Refusals: 3 on a write", by 06 and 16; a broadcast read is 1, and two registers are no row
+    ∷ rtu ask-drive (says 0 drive-0040 ∷ [])
+    ∷ rtu (0x01 ∷ 0x06 ∷ 0x02 ∷ 0x58 ∷ 0x00 ∷ 0x40 ∷ 0x08 ∷ 0x51 ∷ []) (says 3 (0x01 ∷ 0x86 ∷ 0x02 ∷ 0xC3 ∷ 0xA1 ∷ []) ∷ [])
+    ∷ rtu (0x01 ∷ 0x10 ∷ 0x02 ∷ 0x58 ∷ 0x00 ∷ 0x01 ∷ 0x02 ∷ 0x00 ∷ 0x00 ∷ 0x88 ∷ 0x88 ∷ []) (says 3 (0x01 ∷ 0x90 ∷ 0x02 ∷ 0xCD ∷ 0xC1 ∷ []) ∷ [])
+    ∷ rtu (0x00 ∷ 0x03 ∷ 0x02 ∷ 0x58 ∷ 0x00 ∷ 0x01 ∷ 0x05 ∷ 0xB0 ∷ []) (says 1 [] ∷ [])
+    ∷ rtu (0x01 ∷ 0x04 ∷ 0x02 ∷ 0x58 ∷ 0x00 ∷ 0x02 ∷ 0xF1 ∷ 0xA0 ∷ []) (says 2 (0x01 ∷ 0x84 ∷ 0x02 ∷ 0xC2 ∷ 0xC1 ∷ []) ∷ [])
+    -- with DIN1 active: MODE 3 is ready, SCMD 129 runs; a time-out is a fault flag; a read of SioErr clears it; after a restart MODE is 1
+    ∷ record {
+      card = din1Set true (fresh Rtu) .card;
+      events =
+          came ask-drive ∷ came rtu-mode-3 ∷ came ask-drive ∷ came rtu-scmd-129 ∷ came ask-drive ∷ tick 51 ∷ came ask-drive
+          ∷ came (0x01 ∷ 0x03 ∷ 0x07 ∷ 0x18 ∷ 0x00 ∷ 0x01 ∷ 0x05 ∷ 0x79 ∷ []) ∷ came ask-drive ∷ restart ∷ came ask-drive ∷ [];
+      right =
+          showing (says 0 drive-0000 ∷ says 0 rtu-mode-3 ∷ says 0 drive-0201 ∷ says 0 rtu-scmd-129 ∷ says 0 drive-0203 ∷ says 0 drive-0208 ∷ says 0 told-1 ∷ says 0 drive-0201 ∷ says 0 drive-0000 ∷ []) 0;
+    }
+    -- a fault that has ended is told until it is acknowledged by a read of 02A4h
+    ∷ record {
+      card = faulted Rtu;
+      events = came ask-drive ∷ came (0x01 ∷ 0x03 ∷ 0x02 ∷ 0xA4 ∷ 0x00 ∷ 0x01 ∷ 0xC4 ∷ 0x51 ∷ []) ∷ came ask-drive ∷ [];
+      right = showing (says 0 drive-0048 ∷ says 0 told-1 ∷ says 0 drive-0040 ∷ []) 0;
+    }
     -- "Who are you?" Over RTU, by function 43, type 14:
     -- code 01, object 00h: up to 02h
     ∷ rtu (0x01 ∷ 0x2B ∷ 0x0E ∷ 0x01 ∷ 0x00 ∷ 0x70 ∷ 0x77 ∷ [])

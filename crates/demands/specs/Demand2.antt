@@ -1,5 +1,6 @@
 -- Demand 2: "Each message has exactly the effect and reply of document 01. What the master side writes is read by the card as that same request, and each
--- reply is read back as what was answered." The effect is stated in Effects.antt, the rest here. Assumes nothing.
+-- reply is read back as what was answered." The effect is stated in Effects.antt, the rest here. A card is the whole card, with the status word that is kept in it.
+-- Assumes nothing.
 use mathlib.Core.Path.{_≡_}
 use mathlib.Core.Logic.{_⊎_, _↔_}
 use mathlib.Core.Bool.{Bool, true}

@@ -1,6 +1,6 @@
 -- Demand 3: "Cut a stream of NFO serial or Modbus ASCII bytes anywhere: with nothing pending before, the taken messages' outcomes, joined replies and end
 -- state equal those of the left-to-right reading of the whole stream. There each well-formed message is taken exactly once, from wherever it begins, save an
--- NFO message whose first byte is the last byte of one already taken." Assumes nothing.
+-- NFO message whose first byte is the last byte of one already taken." The end state is the whole card but for what is pending, with the status word that is kept in it. Assumes nothing.
 use mathlib.Core.Path.{_≡_}
 use mathlib.Core.Bool.{true}
 use mathlib.Core.List.{List, [], _∷_, _++_}

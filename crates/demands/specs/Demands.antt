@@ -5,6 +5,7 @@ use Rattle.demands.specs.Host.{Host}
 use Rattle.demands.specs.Reached.{Reached}
 use Rattle.demands.specs.Silence.{SilenceStops}
 use Rattle.demands.specs.Effects.{Effects}
+use Rattle.demands.specs.Status.{StatusKept}
 use Rattle.demands.specs.Demand2.{Demand2}
 use Rattle.demands.specs.Identity.{WhoAreYou}
 use Rattle.demands.specs.Letters.{Letters}
@@ -18,6 +19,7 @@ pub record Demands : Type 0 where
   pub reached : Reached
   pub silence : SilenceStops
   pub effects : Effects
+  pub status : StatusKept
   pub demand-2 : Demand2
   pub identity : WhoAreYou
   pub letters : Letters

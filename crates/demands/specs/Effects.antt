@@ -1,14 +1,15 @@
 -- Demand 2, its first half: "Each message has exactly the effect .. of document 01". An effect is told by what a following read answers, in messages as a master
--- writes them, over each of the three protocols; and every number that no read tells is named. Assumes nothing.
+-- writes them, over each of the three protocols; and every number that no read tells is named. Drive Status is a row like any other here: its word stands in the card, and after
+-- every message it is told by its rule, where it was right before (`drive-status`, and `Status`). Assumes nothing.
 use mathlib.Core.Path.{_≡_}
-use mathlib.Core.Logic.{_≢_}
+use mathlib.Core.Logic.{_⊎_, _≢_, _↔_}
 use mathlib.Core.Bool.{true, false}
 use mathlib.Core.List.{List, []}
-use Prim.Native.Nat.{ℕ, _/_, _<_}
+use Prim.Native.Nat.{ℕ, _/_, _^_, _<_}
 use lib.Dec.{eqb}
 use lib.ListN.{length, getD}
 use Rattle.base.specs.Choice.{pick, both, either}
-use Rattle.table.specs.Names.{Mode, Setpoint, MODE, SCMD, Inv-St-ack, Inv-St, SioErr, rowCount}
+use Rattle.table.specs.Names.{Mode, Setpoint, MODE, SCMD, Inv-St-ack, Inv-St, SioErr, Drive-Status, rowCount}
 use Rattle.table.specs.Table.{Word, lineAt}
 use Rattle.table.specs.Find.{rowOfE, rowOfSpan}
 use Rattle.table.specs.declared.labels.Found.{Found}
@@ -16,9 +17,10 @@ use Rattle.table.specs.declared.labels.Found.the-variants.{At}
 use Rattle.identity.specs.Identity.{Identity}
 use Rattle.identity.specs.declared.Part.{Part}
 use Rattle.port.specs.Port.{protocol, sum, sioerr, withSioerr}
-use Rattle.drive.specs.Plant.{Plant, siAdr, mode, scmd, din1, causes, flags, station, withFlags}
+use Rattle.drive.specs.Plant.{Plant, siAdr, mode, scmd, din1, causes, flags, station}
 use Rattle.drive.specs.Flags.{flagged, only}
-use Rattle.drive.specs.Status.{active}
+use Rattle.drive.specs.Status.{active, Right}
+use Rattle.drive.specs.Faults.{reflagged}
 use Rattle.answers.specs.declared.Answer.the-variants as Answers
 use Rattle.answers.specs.declared.Change.{Change}
 use Rattle.card.specs.State.{protocolOf, withPlant, cardSum, started}
@@ -96,16 +98,20 @@ pub record Stays (c d : Card) : Type 0 where
   -- "No message changes the identity"
   pub identity : d .identity ≡ c .identity
 
+-- row n tells its own word: it is none of those that tell of the drive as a whole, by their rules
+abbrev pub OwnWord : ℕ → Type 0
+OwnWord n = (n ≢ Inv-St-ack) × (n ≢ Inv-St) × (n ≢ Drive-Status)
+
 -- a write of a different number
 abbrev pub Differs : Card → Change → ℕ → Type 0
 Differs c change n = (change .row .0 ≡ n) × (getD (c .plant) n 0 ≢ change .word)
 
--- the write went to the row alone: not to row n, and nothing follows from it there. The two Inv St rows have their rule
+-- the write went to the row alone: not to row n, and nothing follows from it there. The two Inv St rows and Drive Status have their rules
 pub record Elsewhere (c : Card) (change : Change) (n : ℕ) : Type 0 where
   pub other : n ≢ change .row .0
   pub setpoint : Differs c change Mode → n ≢ Setpoint
   pub scmd : Differs c change MODE → n ≢ SCMD
-  pub status : (n ≢ Inv-St-ack) × (n ≢ Inv-St)
+  pub own : OwnWord n
 
 -- what a done write leaves
 pub record WriteLeaves (c : Card) (change : Change) (d : Card) : Type 0 where
@@ -127,14 +133,14 @@ pub record StopLeaves (c : Card) (change : Change) (d : Card) : Type 0 where
   pub command : change ≡ record { row = record { 0 = SCMD }; word = 0 }
   pub only-14 : flags (c .plant) ≡ only 14
   pub sioerr : Tells d SioErr 0
-  pub others : (n : ℕ) → n ≢ SioErr → (n ≢ Inv-St-ack) × (n ≢ Inv-St) → Unchanged c d n
+  pub others : (n : ℕ) → n ≢ SioErr → OwnWord n → Unchanged c d n
   pub stays : Stays c d
   pub flags : flags (d .plant) ≡ 0
   pub sum : sum (d .port .numbers) ≡ 0
 
--- the card with these flags, and all else as it was but for the time sum
+-- the card with these flags, Drive Status by them, and all else as it was but for the time sum
 abbrev pub flaggedWith : ℕ → Card → Card
-flaggedWith x c = cardSum 0 (withPlant (withFlags x (c .plant)) c)
+flaggedWith x c = cardSum 0 (withPlant (reflagged x (c .plant)) c)
 
 abbrev pub sioErrZeroed : Card → Card
 sioErrZeroed c = record { port = record { pending = c .port .pending; numbers = withSioerr 0 (c .port .numbers) }; plant = c .plant; identity = c .identity }
@@ -159,6 +165,17 @@ pub data InvSt (p : Plant) : ℕ → Type 0 where
   bus-stands : flags p ≡ 0 → mode p ≡ 3 → scmd p ≡ 0 → InvSt p 37
   bus-runs : flags p ≡ 0 → mode p ≡ 3 → scmd p ≢ 0 → InvSt p 38
 
+-- "bits from source document 001: 0 ready (MODE 3, DIN1 active, no flag), 1 running, 3 a fault flag stands, 6 DIN1 inactive, 9 MODE 3; the others 0", in 16 bits
+pub record DriveStatus (p : Plant) (w : ℕ) : Type 0 where
+  pub ready : (flagged 0 w ≡ true) ↔ ((mode p ≡ 3) × (din1 p ≢ 0) × (flags p ≡ 0))
+  -- "Running: MODE 2, DIN1 active, no fault flag; or MODE 3, SCMD not 0. Otherwise not."
+  pub running : (flagged 1 w ≡ true) ↔ (((mode p ≡ 2) × (din1 p ≢ 0) × (flags p ≡ 0)) ⊎ ((mode p ≡ 3) × (scmd p ≢ 0)))
+  pub fault : (flagged 3 w ≡ true) ↔ (flags p ≢ 0)
+  pub inactive : (flagged 6 w ≡ true) ↔ (din1 p ≡ 0)
+  pub bus : (flagged 9 w ≡ true) ↔ (mode p ≡ 3)
+  pub others : (k : ℕ) → k < 32 → k ≢ 0 → k ≢ 1 → k ≢ 3 → k ≢ 6 → k ≢ 9 → flagged k w ≡ false
+  pub width : w < 2 ^ 16
+
 -- ---- the statement
 pub record Effects : Type 0 where
   -- a message that writes a row, where it is done, wrote that row and that word
@@ -179,6 +196,8 @@ pub record Effects : Type 0 where
   pub row-told : (c : Card) → Sound c → (n : ℕ) → n < rowCount → n ≢ Inv-St-ack → n ≢ Inv-St → n ≢ SioErr → Tells c n (getD (c .plant) n 0)
   pub status : (c : Card) → Sound c → (n : ℕ) × InvSt (c .plant) n × Tells c Inv-St n × Tells c Inv-St-ack n
   pub sio-err : (c : Card) → Sound c → Tells c SioErr (sioerr (c .port .numbers))
+  -- Drive Status, where the word that stands there is right; that every routine keeps it so is in Status.antt
+  pub drive-status : (c : Card) → Sound c → Right (c .plant) → (w : ℕ) × DriveStatus (c .plant) w × Tells c Drive-Status w
   -- the column Start of every row that has one; the two Inv St rows tell 24, "24 at MODE 1"
   pub start : (protocol : Protocols.Protocol) (i : Identity) → SoundIdentity i → (n w : ℕ) → lineAt n .start ≡ Word w → Tells (started protocol i) n w
   pub start-status : (protocol : Protocols.Protocol) (i : Identity) → SoundIdentity i → Tells (started protocol i) Inv-St-ack 24 × Tells (started protocol i) Inv-St 24

@@ -1,15 +1,16 @@
--- What start, restart and the host's events do, number by number: "Start, restart and each host event hand back the whole state". With 12 nothing changes (Demand1).
--- Assumes nothing.
+-- What start, restart and the host's events do, number by number: "Start, restart and each host event hand back the whole state". With 12 nothing changes (Demand1). Where one
+-- changes the drive, Drive Status is made right (`righted`), and nothing else is touched. Assumes nothing.
 use mathlib.Core.Path.{_≡_}
 use mathlib.Core.Logic.{_⊎_, _≢_}
 use mathlib.Core.Bool.{true, false}
 use mathlib.Core.List.{[]}
 use Prim.Native.Nat.{ℕ, _+_, _≤_, _<_}
 use lib.ListN.{getD, set}
-use Rattle.table.specs.Names.{SiAdr, SioTot, MbAdr, MODE, SCMD, FrqAct, I-rms, OpTime}
+use Rattle.table.specs.Names.{SiAdr, SioTot, MbAdr, MODE, SCMD, FrqAct, I-rms, OpTime, Drive-Status}
 use Rattle.identity.specs.Identity.{Identity}
 use Rattle.port.specs.Port.{sum, sioerr, withSioerr}
 use Rattle.drive.specs.Plant.{Plant, Sized, Flags, Station, siAdr, mode, scmd, din1, causes, flags, station, withScmd, withDin1, withCauses, withFlags}
+use Rattle.drive.specs.Status.{righted}
 use Rattle.drive.specs.Events.{isFault}
 use Rattle.drive.specs.declared.events.Measured.the-variants.{Frq, Rms, Optime}
 use Rattle.pending.specs.Held.{held}
@@ -22,7 +23,7 @@ use Rattle.demands.specs.Kept.{PutIn, TakenOut}
 
 -- flag n is raised, and nothing else: "SCMD becomes 0 when .. a fault flag is raised"
 abbrev pub RaisesFlag : ℕ → (before after : Plant) → Type 0
-RaisesFlag n before after = (x : ℕ) × PutIn n (flags before) x × (after ≡ withScmd 0 (withFlags x before))
+RaisesFlag n before after = (x : ℕ) × PutIn n (flags before) x × (after ≡ righted (withScmd 0 (withFlags x before)))
 
 -- "SioErr (ours): bit 0 time-out, bit 1 parity fault told by the host. Either one at MODE 3 also raises flag 14"
 pub record PortFaultLeaves (bit : ℕ) (c d : Card) : Type 0 where
@@ -42,8 +43,9 @@ pub record AtStart (protocol : Protocols.Protocol) (c : Card) : Type 0 where
   pub flags : flags (c .plant) ≡ 0
 
 -- "Restart keeps rows 301 to 322, DIN1, causes and measured numbers; flags become the standing causes; MODE 1, SCMD, SioErr and sum 0, nothing pending"
+-- Drive Status is right then, whatever it was (Status.antt)
 pub record AfterRestart (c d : Card) : Type 0 where
-  pub keeps : (i : ℕ) → i ≢ SiAdr → i ≢ MODE → i ≢ SCMD → i ≢ Flags → i ≢ Station → getD (d .plant) i 0 ≡ getD (c .plant) i 0
+  pub keeps : (i : ℕ) → i ≢ SiAdr → i ≢ MODE → i ≢ SCMD → i ≢ Flags → i ≢ Station → i ≢ Drive-Status → getD (d .plant) i 0 ≡ getD (c .plant) i 0
   -- "A restart that finds 0 or 95 kept from before puts 1 there"; any other number stays
   pub healed : (siAdr (c .plant) ≡ 0) ⊎ (siAdr (c .plant) ≡ 95) → siAdr (d .plant) ≡ 1
   pub address : siAdr (c .plant) ≢ 0 → siAdr (c .plant) ≢ 95 → siAdr (d .plant) ≡ siAdr (c .plant)
@@ -67,8 +69,8 @@ pub record Host : Type 0 where
   -- "or ends a cause (the flag stays)"
   pub end : (n : ℕ) (c : Card) → isFault n ≡ true → (x : ℕ) × TakenOut n (causes (c .plant)) x × (causeEnded n c .card ≡ withPlant (withCauses x (c .plant)) c)
   -- "SCMD becomes 0 when DIN1 goes inactive"
-  pub active : (c : Card) → din1Set true c .card ≡ withPlant (withDin1 1 (c .plant)) c
-  pub inactive : (c : Card) → din1Set false c .card ≡ withPlant (withScmd 0 (withDin1 0 (c .plant))) c
+  pub active : (c : Card) → din1Set true c .card ≡ withPlant (righted (withDin1 1 (c .plant))) c
+  pub inactive : (c : Card) → din1Set false c .card ≡ withPlant (righted (withScmd 0 (withDin1 0 (c .plant)))) c
   -- "The host sets FrqAct, I-rms and OpTime freely in their widths"
   pub frq-act : (w : ℕ) (c : Card) → measuredSet (Frq w) c .card ≡ withPlant (set (c .plant) FrqAct w) c
   pub i-rms : (w : ℕ) (c : Card) → measuredSet (Rms w) c .card ≡ withPlant (set (c .plant) I-rms w) c

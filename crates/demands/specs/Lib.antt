@@ -7,6 +7,7 @@
 --   Reached   a card on NFO serial can be asked, whatever was written to it
 --   Silence   a card at MODE 3 stops by itself when its master is dead
 --   Effects   what a message does, by what a following read tells
+--   Status    the status word that is kept is right, whatever came before
 --   Demand2   what the master wrote arrives, and what was answered is heard
 --   Identity  what a master is told that asks who the card is
 --   Letters   small letters are taken, capitals are written
@@ -21,6 +22,7 @@ pub mod Host
 pub mod Reached
 pub mod Silence
 pub mod Effects
+pub mod Status
 pub mod Demand2
 pub mod Identity
 pub mod Letters

@@ -12,11 +12,11 @@ use borrow.Author.Tests.{ne-eqb, eqb-false, le-leb, lt-leb, leb-true}
 use Rattle.base.specs.Choice.{both, either}
 use Rattle.base.proofs.Tests.{pick-both, both-out, either-out, either-right}
 use Rattle.drive.specs.declared.events.Measured.{Measured}
-use Rattle.drive.specs.Plant.{Plant, mode, scmd, din1, causes, flags, withScmd, withCauses}
+use Rattle.drive.specs.Plant.{Plant, mode, scmd, din1, causes, flags, withCauses}
 use Rattle.drive.specs.Flags.{only}
-use Rattle.drive.specs.Status.{active, flagStands, runs}
-use Rattle.drive.specs.Faults.{flagRaised, without14, stopped}
-use Rattle.drive.specs.Events.{healed, isFault, raised, ended, withActive, withMeasured}
+use Rattle.drive.specs.Status.{active, flagStands, runs, bit, ready, statusWord, righted}
+use Rattle.drive.specs.Faults.{flagRaised}
+use Rattle.drive.specs.Events.{healed, isFault, raised, ended, switched, withMeasured}
 
 -- ---- running
 twice : (t : Bool) → t ≡ either (not (not t)) false
@@ -108,14 +108,63 @@ pub healed-both : (Q : ℕ → Type 0) (a : ℕ) → Q 1 → (a ≢ 0 → a ≢ 
 unfolding healed
 healed-both Q a one other = pick-both Q (eqb a 0) (λ _. one) (λ n. pick-both Q (eqb a 95) (λ _. one) (λ m. other (eqb-false a 0 n) (eqb-false a 95 m)))
 
--- ---- the broadcast stop: flag 14 is cleared, and then SCMD is 0
-pub stopped-then : (p q : Plant) → q ≡ without14 p → withScmd 0 q ≡ stopped p
-unfolding stopped
-stopped-then p q e = ap (withScmd 0) e
+-- ---- Drive Status, by three tests: no flag stands, DIN1 is inactive, SCMD is 0
+-- the code's two bits that hold the drive, and the definition's word at MODE 2, at MODE 3 and at another
+abbrev held : Bool → Bool → ℕ
+held calm inactive = bitOr (bit 3 (not calm)) (bit 6 inactive)
+
+abbrev word : (auto bus : Bool) → Bool → Bool → Bool → ℕ
+word auto bus calm inactive still =
+    bitOr (bitOr (bitOr (bitOr
+    (bit 0 (both bus (both (not inactive) (not (not calm)))))
+    (bit 1 (either (both auto (both (not inactive) (not (not calm)))) (both bus (not still)))))
+    (bit 3 (not calm)))
+    (bit 6 (not (not inactive))))
+    (bit 9 bus)
+
+-- the code's word is the same, in every case
+bus-word : (calm inactive still : Bool) → bitOr (bitOr (bitOr (held calm inactive) 512) (bit 0 (eqb (held calm inactive) 0))) (bit 1 (not still)) ≡ word false true calm inactive still
+bus-word true true true = refl
+bus-word true true false = refl
+bus-word true false true = refl
+bus-word true false false = refl
+bus-word false true true = refl
+bus-word false true false = refl
+bus-word false false true = refl
+bus-word false false false = refl
+
+auto-word : (calm inactive still : Bool) → bitOr (held calm inactive) (bit 1 (eqb (held calm inactive) 0)) ≡ word true false calm inactive still
+auto-word true true still = refl
+auto-word true false still = refl
+auto-word false true still = refl
+auto-word false false still = refl
+
+other-word : (calm inactive still : Bool) → held calm inactive ≡ word false false calm inactive still
+other-word true true still = refl
+other-word true false still = refl
+other-word false true still = refl
+other-word false false still = refl
+
+module _ (p : Plant) (f a : ℕ) (fault : f ≡ bit 3 (not (eqb (flags p) 0))) (inactive : a ≡ bit 6 (eqb (din1 p) 0)) where
+  pub word-bus : (r s : ℕ) → mode p ≡ 3 → r ≡ bit 0 (eqb (bitOr f a) 0) → s ≡ bit 1 (not (eqb (scmd p) 0)) → bitOr (bitOr (bitOr (bitOr f a) 512) r) s ≡ statusWord p
+  unfolding statusWord ready runs active flagStands
+  word-bus r s m e g = rw (e, g, fault, inactive, m) (bus-word (eqb (flags p) 0) (eqb (din1 p) 0) (eqb (scmd p) 0))
+
+  pub word-auto : (r : ℕ) → mode p ≡ 2 → r ≡ bit 1 (eqb (bitOr f a) 0) → bitOr (bitOr f a) r ≡ statusWord p
+  unfolding statusWord ready runs active flagStands
+  word-auto r m e = rw (e, fault, inactive, m) (auto-word (eqb (flags p) 0) (eqb (din1 p) 0) (eqb (scmd p) 0))
+
+  pub word-other : (mode p ≡ 2 → ⊥) → (mode p ≡ 3 → ⊥) → bitOr f a ≡ statusWord p
+  unfolding statusWord ready runs active flagStands
+  word-other m n = rw (fault, inactive, ne-eqb (mode p) 2 m, ne-eqb (mode p) 3 n) (other-word (eqb (flags p) 0) (eqb (din1 p) 0) (eqb (scmd p) 0))
 
 -- ---- the two cases of DIN1
-pub din1-at : (p r : Plant) (active t : Bool) → active ≡ t → r ≡ withActive t p → r ≡ withActive active p
-din1-at p r active t h q = q ∙ ap (λ (a : Bool). withActive a p) (sym h)
+pub switched-at : (p r : Plant) (active t : Bool) → active ≡ t → r ≡ switched t p → r ≡ switched active p
+switched-at p r active t h q = q ∙ ap (λ (a : Bool). switched a p) (sym h)
+
+-- ---- a change, and then the word is made right
+pub right-after : (q r x : Plant) → q ≡ x → r ≡ righted q → r ≡ righted x
+right-after q r x e d = d ∙ ap righted e
 
 -- ---- an arm of a `match` on what is measured
 pub measured-at : (p r : Plant) (measured k : Measured) → measured ≡ k → r ≡ withMeasured k p → r ≡ withMeasured measured p

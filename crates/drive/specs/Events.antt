@@ -10,6 +10,7 @@ use Rattle.drive.specs.declared.events.Measured.the-variants.{Frq, Rms, 
 use Rattle.table.specs.Names.{MbAdr, FrqAct, I-rms, OpTime}
 use Rattle.drive.specs.Plant.{Plant, siAdr, mode, causes, withSiAdr, withMode, withScmd, withDin1, withCauses, withFlags, withStation}
 use Rattle.drive.specs.Flags.{only, allBut}
+use Rattle.drive.specs.Status.{righted}
 use Rattle.drive.specs.Faults.{flagRaised}
 
 -- "A restart that finds 0 or 95 kept from before puts 1 there": SiAdr after a restart
@@ -19,7 +20,7 @@ healed address = pick (eqb address 0) 1 (pick (eqb address 95) 1 address)
 -- "Restart keeps rows 301 to 322, DIN1, causes and measured numbers", but for a SiAdr of 0 or 95; "flags become the standing causes; MODE 1, SCMD .. 0";
 -- "ours is what MbAdr held at the last start or restart"
 unfoldable pub restarted : Plant → Plant
-restarted p = withMode 1 (withScmd 0 (withFlags (causes p) (withSiAdr (healed (siAdr p)) (withStation (getD p MbAdr 0) p))))
+restarted p = righted (withMode 1 (withScmd 0 (withFlags (causes p) (withSiAdr (healed (siAdr p)) (withStation (getD p MbAdr 0) p)))))
 
 -- "Faults 1 to 13 and 16 to 23"
 unfoldable pub isFault : ℕ → Bool
@@ -47,9 +48,12 @@ unfoldable pub portFault : Plant → Plant
 portFault p = pick (eqb (mode p) 3) (flagRaised (only 14) p) p
 
 -- "SCMD becomes 0 when DIN1 goes inactive"
+unfoldable pub switched : Bool → Plant → Plant
+switched true p = withDin1 1 p
+switched false p = withScmd 0 (withDin1 0 p)
+
 unfoldable pub withActive : Bool → Plant → Plant
-withActive true p = withDin1 1 p
-withActive false p = withScmd 0 (withDin1 0 p)
+withActive active p = righted (switched active p)
 
 -- "The host sets FrqAct, I-rms and OpTime freely in their widths"
 unfoldable pub withMeasured : Measured → Plant → Plant

@@ -4,7 +4,7 @@ use mathlib.Core.Path.{_≡_}
 use mathlib.Core.List.{List, [], _∷_, _++_}
 use Prim.Native.Nat.{ℕ, _+_}
 use lib.ListN.{length, getD, set}
-use Rattle.table.specs.Names.{SiAdr, MbAdr, MODE, SCMD, rowCount}
+use Rattle.table.specs.Names.{SiAdr, MbAdr, MODE, SCMD, Drive-Status, rowCount}
 use Rattle.table.specs.Table.{startWords}
 
 abbrev pub Plant : Type 0
@@ -38,6 +38,10 @@ mode p = getD p MODE 0
 abbrev pub scmd : Plant → ℕ
 scmd p = getD p SCMD 0
 
+-- the word that stands for Drive Status
+abbrev pub driveStatus : Plant → ℕ
+driveStatus p = getD p Drive-Status 0
+
 abbrev pub din1 : Plant → ℕ
 din1 p = getD p DIN1 0
 
@@ -59,6 +63,9 @@ withMode x p = set p MODE x
 
 abbrev pub withScmd : ℕ → Plant → Plant
 withScmd x p = set p SCMD x
+
+abbrev pub withDriveStatus : ℕ → Plant → Plant
+withDriveStatus x p = set p Drive-Status x
 
 abbrev pub withDin1 : ℕ → Plant → Plant
 withDin1 x p = set p DIN1 x

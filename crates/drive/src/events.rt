@@ -1,13 +1,13 @@
 // Host events: what each makes of the plant.
 use crate::faults::FLAG_14;
+use crate::faults::raise_flags;
 use crate::plant::CAUSES;
 use crate::plant::DIN1;
-use crate::plant::FLAGS;
 use crate::plant::Plant;
+use crate::status::right_status;
 use table::names::*;
 ghost use mathlib.Core.Path.{_≡_};
-ghost use Rattle.drive.specs.Faults.{flagRaised};
-ghost use Rattle.drive.specs.Events.{isFault, raised, ended, portFault, withActive, withMeasured};
+ghost use Rattle.drive.specs.Events.{isFault, raised, ended, portFault, switched, withActive, withMeasured};
 
 // A number that the host measures: FrqAct in 16 bits, I-rms and OpTime in 32.
 pub enum Measured {
@@ -25,14 +25,6 @@ fn is_fault(n: u32) -> bool
         16..=23 => true,
         _ => false,
     }
-}
-
-// Raises the flags of a mask, which stops the drive.
-fn raise_flags(plant: &mut Plant, mask: u32)
-    ensures { λ _. ⌜ now (plant .exit) ≡ flagRaised mask (now (plant .entry)) ⌝ }
-{
-    plant[FLAGS] = plant[FLAGS] | mask;
-    plant[SCMD] = 0;
 }
 
 // Raises fault n: its cause stands, its flag is raised, and the drive stops. Tells whether there is a fault of that number; where there is none, nothing changes.
@@ -70,9 +62,9 @@ pub fn port_fault(plant: &mut Plant)
     }
 }
 
-// DIN1 becomes active, or inactive, which stops the drive.
-pub fn set_din1(plant: &mut Plant, active: bool)
-    ensures { λ _. ⌜ now (plant .exit) ≡ withActive active (now (plant .entry)) ⌝ }
+// DIN1 is stored, and SCMD is 0 where it is inactive.
+fn switch(plant: &mut Plant, active: bool)
+    ensures { λ _. ⌜ now (plant .exit) ≡ switched active (now (plant .entry)) ⌝ }
 {
     if active {
         plant[DIN1] = 1;
@@ -80,6 +72,14 @@ pub fn set_din1(plant: &mut Plant, active: bool)
     }
     plant[DIN1] = 0;
     plant[SCMD] = 0;
+}
+
+// DIN1 becomes active, or inactive, which stops the drive.
+pub fn set_din1(plant: &mut Plant, active: bool)
+    ensures { λ _. ⌜ now (plant .exit) ≡ withActive active (now (plant .entry)) ⌝ }
+{
+    switch(plant, active);
+    right_status(plant);
 }
 
 // A number is measured anew.

@@ -1,4 +1,4 @@
-// The plant: the words of the table's rows, each at its line, and the drive's numbers that are no rows, with the rules of document 01 for host events, the fault flags and what runs.
+// The plant: the words of the table's rows, each at its line, and the drive's numbers that are no rows, with the rules of document 01 for host events, the fault flags and what runs, and the status word that is kept.
 // It knows nothing of messages or ports: reading and writing a row are crates of their own. Calls are lent the plant where it lies.
 mod events;
 mod faults;
@@ -23,4 +23,5 @@ pub use plant::STATION;
 pub use plant::restart;
 pub use plant::start;
 pub use status::flag_stands;
+pub use status::right_status;
 pub use status::running;

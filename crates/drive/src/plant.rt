@@ -1,4 +1,5 @@
 // The state, at start and after a restart.
+use crate::status::right_status;
 use table::names::MB_ADR;
 use table::names::MODE;
 use table::names::ROWS;
@@ -10,7 +11,7 @@ ghost use Rattle.drive.specs.Events.{healed, restarted};
 
 // Each row's word, two's complement, at its line in the table, and behind the rows the numbers that are no rows. Any words are a plant. The lines of Inv
 // St, which is worked out, and of SioErr, which is the port's, hold nothing.
-pub type Plant = [u32; 34];
+pub type Plant = [u32; 35];
 
 // DIN1: 0 is inactive, any other number active.
 pub const DIN1: usize = ROWS;
@@ -56,6 +57,7 @@ const START: Plant = [
     0, // FrqAct
     0, // I-rms
     0, // OpTime
+    64, // Drive Status
     0, // DIN1
     0, // causes
     0, // flags
@@ -93,4 +95,5 @@ pub fn restart(plant: &mut Plant)
     plant[FLAGS] = causes;
     plant[SCMD] = 0;
     plant[MODE] = 1;
+    right_status(plant);
 }

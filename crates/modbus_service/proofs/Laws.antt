@@ -26,8 +26,9 @@ use Rattle.answers.specs.declared.Change.{Change}
 use Rattle.answers.specs.declared.Refusal.{Refusal}
 use Rattle.answers.specs.declared.Refusal.the-variants as Refusals
 use Rattle.answers.specs.Answer.{answerNumber}
+use Rattle.reading.specs.Read.{told}
 use Rattle.service.specs.Serving.{Served, keeping, permitted, toldServed}
-use Rattle.service.proofs.Laws.{wrote-is, wrote-keeps}
+use Rattle.service.proofs.Laws.{told-is, wrote-is, wrote-keeps}
 use Rattle.service.specs.Write.{written}
 use Rattle.modbus_words.specs.Words.{longAt}
 use Rattle.modbus.specs.Request.{requestOf}
@@ -129,11 +130,12 @@ module _ (st a : ℕ) (q : Request) (u : List ℕ) (t : Bool) (reaches : t ≡ r
     task-malformed f b e d h = simp (to-us, e, sym d ∙ h)
 
 -- ---- what is done: the plant and the port are `x` and `y` then
-module _ (p : Plant) (q : Numbers) (t : Task) (x : Plant) (a : Answer) where
-  pub done-told : (y : Numbers) (row : Row) → t ≡ Tell row → keeping x y a ≡ toldServed p q row → keeping x y a ≡ done p q t
-  unfolding done
-  done-told y row h e = rw h e
+pub done-told : (p : Plant) (q : Numbers) (t : Task) (x : Plant) (y : Numbers) (row : Row) (w : ℕ) → t ≡ Tell row
+    → record { plant = x; port = y; word = w } ≡ told p q (row .0) → keeping x y (Answers.Told row w) ≡ done p q t
+unfolding done
+done-told p q t x y row w h e = rw h (told-is p q x y row w e)
 
+module _ (p : Plant) (q : Numbers) (t : Task) (x : Plant) (a : Answer) where
   pub done-written : (row : Row) (v : ℕ) → t ≡ Write row v → x ≡ written p (row .0) v .plant → a ≡ permitted (written p (row .0) v .permit) → keeping x q a ≡ done p q t
   unfolding done
   done-written row v h d e = rw h (wrote-is p x q (row .0) v a d e)

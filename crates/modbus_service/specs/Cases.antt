@@ -10,8 +10,8 @@ use Rattle.identity.specs.Identity.{upTo, objectsAsked}
 use Rattle.identity.specs.declared.Part.the-variants.{Objects, Serial}
 use Rattle.drive.specs.Plant.{Plant, flags, started}
 use Rattle.drive.specs.Flags.{flagged, lowestFrom, lowestOf}
-use Rattle.drive.specs.Status.{flagStands, statusOf}
-use Rattle.drive.specs.Faults.{flagRaised, acknowledged}
+use Rattle.drive.specs.Status.{active, flagStands, runs, statusOf, ready, statusWord, righted}
+use Rattle.drive.specs.Faults.{reflagged, halted, flagRaised, acknowledged}
 use Rattle.drive.specs.Events.{isFault, raised, ended}
 use Rattle.answers.specs.Answer.{answerNumber}
 use Rattle.reading.specs.Read as Reading
@@ -65,6 +65,13 @@ cases =
     ∷ ((started, 0, 0x03 ∷ 0x02 ∷ 0x94 ∷ 0x00 ∷ []), (1, 0, Nothing))
     ∷ ((started, 1, 0xAB ∷ []), (9, 0, Data (Exception 0xAB 1)))
     ∷ ((started, 0, 0x2C ∷ []), (9, 0, Nothing))
+    -- Drive Status: DIN1 inactive is bit 6, a flag bit 3; it is only read, by its one register
+    ∷ ((started, 1, 0x03 ∷ 0x02 ∷ 0x58 ∷ 0x00 ∷ 0x01 ∷ []), (0, 0, Data (Word 0x03 0x0040)))
+    ∷ ((over, 1, 0x04 ∷ 0x02 ∷ 0x58 ∷ 0x00 ∷ 0x01 ∷ []), (0, 0x20, Data (Word 0x04 0x0048)))
+    ∷ ((started, 0, 0x03 ∷ 0x02 ∷ 0x58 ∷ 0x00 ∷ 0x01 ∷ []), (1, 0, Nothing))
+    ∷ ((started, 1, 0x06 ∷ 0x02 ∷ 0x58 ∷ 0x00 ∷ 0x00 ∷ []), (3, 0, Data (Exception 0x06 2)))
+    ∷ ((over, 1, 0x10 ∷ 0x02 ∷ 0x58 ∷ 0x00 ∷ 0x01 ∷ 0x02 ∷ 0x00 ∷ 0x48 ∷ []), (3, 0x20, Data (Exception 0x10 2)))
+    ∷ ((started, 1, 0x03 ∷ 0x02 ∷ 0x58 ∷ 0x00 ∷ 0x02 ∷ []), (2, 0, Data (Exception 0x03 2)))
     -- another address
     ∷ ((started, 2, 0x2C ∷ []), (1, 0, Nothing))
     -- 43, type 14: code 01 from object 00h; code 02 from 05h; from 07h, which lies outside; code 04 of 04h, and of 07h. Nothing is acknowledged
@@ -93,5 +100,5 @@ cases =
     ∷ []
 
 pub cases-hold : map (λ (c : (Plant × ℕ × List ℕ) × Result). result (exchanged (c .0 .0) (0 ∷ 0 ∷ 0 ∷ []) (c .0 .1) (c .0 .2))) cases ≡ map (λ (c : (Plant × ℕ × List ℕ) × Result). c .1) cases
-unfolding rows lineAt startWords address firstRegister firstRow rowOfSpan twos within allows allowedAt started flagged lowestFrom lowestOf flagStands statusOf flagRaised acknowledged isFault raised ended Reading.stored Reading.told readOnly boundsOf allowed initRunning permitted permitOf followed applied written toldServed wroteServed wordAt longAt reads writes asked identifying numbering askedOf requestOf upTo objectsAsked reachesUs taskOf done served registersTold repliedBy replied exchanged
+unfolding rows lineAt startWords address firstRegister firstRow rowOfSpan twos within allows allowedAt started flagged lowestFrom lowestOf active flagStands runs statusOf ready statusWord righted reflagged halted flagRaised acknowledged isFault raised ended Reading.stored Reading.told readOnly boundsOf allowed initRunning permitted permitOf followed applied written toldServed wroteServed wordAt longAt reads writes asked identifying numbering askedOf requestOf upTo objectsAsked reachesUs taskOf done served registersTold repliedBy replied exchanged
 cases-hold = refl

@@ -152,7 +152,7 @@ fn do_task(plant: &mut Plant, port: &mut Numbers, task: Task) -> Answer
     ensures { λ r. ⌜ record { plant = now (plant .exit); port = now (port .exit); answer = r } ≡ done (now (plant .entry)) (now (port .entry)) task ⌝ }
 {
     match task {
-        Task::Tell(row) => service::tell(plant, port, row),
+        Task::Tell(row) => Answer::Told(row, reading::read(plant, port, row)),
         Task::Write(row, value) => service::write(plant, row, value),
         Task::Say(answer) => answer,
     }

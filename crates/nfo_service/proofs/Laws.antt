@@ -22,8 +22,9 @@ use Rattle.answers.specs.declared.Refusal.the-variants as Refusals
 use Rattle.drive.specs.Faults.{stopped}
 use Rattle.permit.specs.Refusals.{readOnly}
 use Rattle.service.specs.Write.{written}
-use Rattle.service.specs.Serving.{Served, keeping, toldServed, permitted}
-use Rattle.service.proofs.Laws.{wrote-is}
+use Rattle.reading.specs.Read.{told}
+use Rattle.service.specs.Serving.{Served, keeping, permitted}
+use Rattle.service.proofs.Laws.{told-is, wrote-is}
 use Rattle.nfo_service.specs.Serve.{toUs, reachesUs, rowNamed, stops, rowSelected, selectServed, enquiryServed, served}
 use Rattle.nfo_service.specs.Reply.{adrIn, parameterIn, eNumberIn, repliedBy, replied}
 use Rattle.answers.specs.declared.Answer.{Answer}
@@ -38,9 +39,10 @@ module _ (p : Plant) (q : Numbers) (adr : ℕ) (name : Parameter) (t : Bool) (ou
   unfolding enquiryServed
   enquiry-none g h f n = simp (sym ours ∙ not-false t h, sym f ∙ n)
 
-  pub enquiry-told : (r : Served) (g : Found) (row : Row) → not t ≡ false → g ≡ rowNamed name → g ≡ At row → r ≡ toldServed p q row → r ≡ enquiryServed p q adr name
+  pub enquiry-told : (x : Plant) (y : Numbers) (w : ℕ) (g : Found) (row : Row) → not t ≡ false → g ≡ rowNamed name → g ≡ At row
+      → record { plant = x; port = y; word = w } ≡ told p q (row .0) → keeping x y (Answers.Told row w) ≡ enquiryServed p q adr name
   unfolding enquiryServed
-  enquiry-told r g row h f n e = simp (sym ours ∙ not-false t h, sym f ∙ n) e
+  enquiry-told x y w g row h f n e = simp (sym ours ∙ not-false t h, sym f ∙ n) (told-is p q x y row w e)
 
 -- ---- a SELECT
 module _ (p : Plant) (q : Numbers) (adr : ℕ) (name : Parameter) (v : Value) (t : Bool) (ours : t ≡ reachesUs p adr) where

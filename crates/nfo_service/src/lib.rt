@@ -85,7 +85,7 @@ fn enquire(plant: &mut Plant, port: &mut Numbers, adr: u8, parameter: Parameter)
     let Found::At(row) = row_of(parameter) else {
         return Answer::Refused(Refusal::NoRow);
     };
-    service::tell(plant, port, row)
+    Answer::Told(row, reading::read(plant, port, row))
 }
 
 fn select(

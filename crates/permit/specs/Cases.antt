@@ -3,13 +3,13 @@ use mathlib.Core.Path.{_≡_, refl}
 use mathlib.Core.Bool.{false}
 use mathlib.Core.List.{List, [], _∷_, map}
 use Prim.Native.Nat.{ℕ}
-use Rattle.table.specs.Names.{P-Nom, I-magn, R-fix1, SpdScl-num, MODE, SCMD, Inv-St}
+use Rattle.table.specs.Names.{P-Nom, I-magn, R-fix1, SpdScl-num, MODE, SCMD, Inv-St, Drive-Status}
 use Rattle.table.specs.Table.{rows, lineAt, startWords}
 use Rattle.allowed.specs.Allowed.{twos, integerOf, within, member, belowLimt, aboveMagn, atMode, setpointAllows, allows, allowedAt}
 use Rattle.drive.specs.Plant.{Plant, started}
-use Rattle.drive.specs.Status.{active, flagStands, runs}
-use Rattle.drive.specs.Faults.{flagRaised}
-use Rattle.drive.specs.Events.{portFault, withActive}
+use Rattle.drive.specs.Status.{active, flagStands, runs, righted}
+use Rattle.drive.specs.Faults.{halted, flagRaised}
+use Rattle.drive.specs.Events.{portFault, switched, withActive}
 use Rattle.drive.specs.Cases.{bus, bus-runs, silent}
 use Rattle.permit.specs.Refusals.{readOnly, boundsOf, allowed, initRunning, permitted}
 use Rattle.permit.specs.Permit.{permitNumber, permitOf}
@@ -27,6 +27,7 @@ cases =
     ∷ (outcome started R-fix1 0xB1DF, 4)
     -- the refusals, and which comes first
     ∷ (outcome silent Inv-St 1, 3)
+    ∷ (outcome started Drive-Status 0, 3)
     ∷ (outcome silent P-Nom 0, 4)
     ∷ (outcome silent P-Nom 150, 5)
     ∷ (outcome bus-runs P-Nom 150, 6)
@@ -40,5 +41,5 @@ cases =
     ∷ []
 
 pub cases-hold : map (λ (c : ℕ × ℕ). c .0) cases ≡ map (λ (c : ℕ × ℕ). c .1) cases
-unfolding rows lineAt startWords twos integerOf within member belowLimt aboveMagn atMode setpointAllows allows allowedAt started active flagStands runs flagRaised portFault withActive readOnly boundsOf allowed initRunning permitted permitOf
+unfolding rows lineAt startWords twos integerOf within member belowLimt aboveMagn atMode setpointAllows allows allowedAt started active flagStands runs righted halted flagRaised portFault switched withActive readOnly boundsOf allowed initRunning permitted permitOf
 cases-hold = refl

@@ -7,16 +7,17 @@ use native.Mathlib.Omega.{arith}
 use borrow.Author.Tests.{ne-eqb, eqb-true, ltb-true, ltb-false, not-true}
 use lib.Dec.{eqb, ltb}
 use lib.ListN.{length, getD, set, length-set}
-use lib.Seq.{getD-set-same, getD-set-other}
+use lib.Seq.{getD-set-same, getD-set-other, set-getD}
 use Rattle.base.specs.Choice.{pick, both}
 use Rattle.base.specs.Order.{Line, noneOf}
 use Rattle.base.proofs.Tests.{both-out, not-both, pick-both}
-use Rattle.table.specs.Names.{Mode, Setpoint, MODE, SCMD}
+use Rattle.table.specs.Names.{Mode, Setpoint, MODE, SCMD, Drive-Status}
 use Rattle.table.specs.Table.{rows, lineAt}
 use Rattle.table.proofs.Columns.{from-Inv-St}
 use Rattle.port.specs.Port.{Numbers}
 use Rattle.drive.specs.Plant.{Plant, Sized}
-use Rattle.drive.specs.Status.{flagStands}
+use Rattle.drive.specs.Status.{flagStands, Right}
+use Rattle.drive.proofs.Righted.{righted-other, righted-right}
 use Rattle.answers.specs.declared.Change.{Change}
 use Rattle.answers.specs.declared.Refusal.{Refusal}
 use Rattle.permit.specs.declared.Permit.{Permit}
@@ -42,8 +43,8 @@ follow-leaves p row n a b =
 -- ---- a row that was written holds the word
 pub stores : (p : Plant) (row w : ℕ) → Sized p → row ≤ SCMD → getD (applied row w p) row 0 ≡ w
 stores p row w s h =
-    applied-by p row w (λ x. getD x row 0 ≡ w) (λ l. absurd (omega arith)) (λ l. here)
-    (λ l d. follow-leaves (set p row w) row row (λ e q. omega arith) (λ e q. omega arith) ∙ here)
+    applied-by p row w (λ x. getD x row 0 ≡ w) (λ l. absurd (omega arith)) (λ l e. here)
+    (λ l d. righted-other _ row (λ e. omega (arith, e)) ∙ follow-leaves (set p row w) row row (λ e q. omega arith) (λ e q. omega arith) ∙ here)
   where
     here : getD (set p row w) row 0 ≡ w
     here = getD-set-same p row w 0 (omega arith)
@@ -54,12 +55,12 @@ stores-told p q row w s h =
     ap (λ (t : Told). t .word) (tells-stored (applied row w p) q row (omega arith) (λ e. omega arith) (λ e. omega arith) (λ e. omega arith))
     ∙ stores p row w s h
 
--- ---- every other number is as it was, but for Setpoint at a different Mode, and SCMD at a different MODE
-pub leaves : (p : Plant) (row w n : ℕ) → (n ≡ row → ⊥) → (row ≡ Mode → (getD p Mode 0 ≡ w → ⊥) → n ≡ Setpoint → ⊥)
+-- ---- every other number is as it was, but for Drive Status, Setpoint at a different Mode, and SCMD at a different MODE
+pub leaves : (p : Plant) (row w n : ℕ) → (n ≡ row → ⊥) → (n ≡ Drive-Status → ⊥) → (row ≡ Mode → (getD p Mode 0 ≡ w → ⊥) → n ≡ Setpoint → ⊥)
     → (row ≡ MODE → (getD p MODE 0 ≡ w → ⊥) → n ≡ SCMD → ⊥) → getD (applied row w p) n 0 ≡ getD p n 0
-leaves p row w n o a b =
-    applied-by p row w (λ x. getD x n 0 ≡ getD p n 0) (λ l. refl) (λ l. there)
-    (λ l d. follow-leaves (set p row w) row n (λ e. a e (λ q. d (rw e q))) (λ e. b e (λ q. d (rw e q))) ∙ there)
+leaves p row w n o s a b =
+    applied-by p row w (λ x. getD x n 0 ≡ getD p n 0) (λ l. refl) (λ l e. there)
+    (λ l d. righted-other _ n s ∙ follow-leaves (set p row w) row n (λ e. a e (λ q. d (rw e q))) (λ e. b e (λ q. d (rw e q))) ∙ there)
   where
     there : getD (set p row w) n 0 ≡ getD p n 0
     there = getD-set-other p row n w 0 o
@@ -67,21 +68,26 @@ leaves p row w n o a b =
 -- "A write of a different Mode also sets Setpoint to 0"
 pub sets-setpoint : (p : Plant) (w : ℕ) → Sized p → (getD p Mode 0 ≡ w → ⊥) → getD (applied Mode w p) Setpoint 0 ≡ 0
 unfolding applied followed
-sets-setpoint p w s d = simp (ne-eqb _ _ d) (getD-set-same (set p Mode w) Setpoint 0 0 (omega (arith, length-set p Mode w)))
+sets-setpoint p w s d =
+    simp (ne-eqb _ _ d) (righted-other _ Setpoint (λ e. omega (arith, e)) ∙ getD-set-same (set p Mode w) Setpoint 0 0 (omega (arith, length-set p Mode w)))
 
 -- "SCMD becomes 0 when .. MODE changes to a different number"
 pub sets-scmd : (p : Plant) (w : ℕ) → Sized p → (getD p MODE 0 ≡ w → ⊥) → getD (applied MODE w p) SCMD 0 ≡ 0
 unfolding applied followed
-sets-scmd p w s d = simp (ne-eqb _ _ d) (getD-set-same (set p MODE w) SCMD 0 0 (omega (arith, length-set p MODE w)))
+sets-scmd p w s d = simp (ne-eqb _ _ d) (righted-other _ SCMD (λ e. omega (arith, e)) ∙ getD-set-same (set p MODE w) SCMD 0 0 (omega (arith, length-set p MODE w)))
 
--- the plant keeps its length
-pub applied-sized : (p : Plant) (row w : ℕ) → length (applied row w p) ≡ length p
-applied-sized p row w =
-    applied-by p row w (λ x. length x ≡ length p) (λ l. refl) (λ l. length-set p row w)
-    (λ l d. followed-by (λ x. length x ≡ length p) (set p row w) row (λ e. once Setpoint) (λ e. once SCMD) (length-set p row w))
+-- ---- what follows keeps the plant's length
+followed-sized : (p : Plant) (row w : ℕ) → length (followed row (set p row w)) ≡ length p
+followed-sized p row w =
+    followed-by (λ x. length x ≡ length p) (set p row w) row (λ e. once Setpoint) (λ e. once SCMD) (length-set p row w)
   where
     once : (n : ℕ) → length (set (set p row w) n 0) ≡ length p
     once n = length-set (set p row w) n 0 ∙ length-set p row w
+
+-- so after a write Drive Status is right, where it was right before
+pub applied-right : (row w : ℕ) (p : Plant) → Right p → Right (applied row w p)
+applied-right row w p right =
+    applied-by p row w Right (λ l. right) (λ l e. rw (← e, set-getD p row 0) right) (λ l d. righted-right _ (followed-sized p row w ∙ right .sized))
 
 -- ---- a write that is permitted
 -- the rows past SCMD, and those past the table, are read-only

@@ -20,7 +20,7 @@ pub(crate) fn write(plant: &mut Plant, row: Row, word: u32) -> Permit
     permit
 }
 
-// Makes a row hold a word. Rows past SCMD hold nothing.
+// Makes a row hold a word, and where it is a different one, Drive Status right. Rows past SCMD are never written.
 fn apply(plant: &mut Plant, change: Change)
     ensures { λ _. ⌜ now (plant .exit) ≡ applied (change .row .0) (change .word) (now (plant .entry)) ⌝ }
 {
@@ -33,6 +33,7 @@ fn apply(plant: &mut Plant, change: Change)
     plant[n] = change.word;
     if before != change.word {
         follow(plant, n);
+        drive::right_status(plant);
     }
 }
 

@@ -9,7 +9,7 @@ use lib.Dec.{eqb, ltb}
 use lib.ListN.{getD, drop, List·getD-eq-default}
 use Rattle.base.specs.Choice.{pick}
 use Rattle.base.proofs.Arms.{upFrom}
-use Rattle.table.specs.Names.{Mode}
+use Rattle.table.specs.Names.{Mode, rowCount}
 use Rattle.table.specs.Table.{Entry, Line, rows, lineAt, noLine}
 use Rattle.table.specs.declared.lines.Class.the-variants.{Init, Run}
 
@@ -26,18 +26,18 @@ pub along-0 : {A : Type 0} (g f : ℕ → A) (k n : ℕ) → map g (upFrom 0 k) 
 along-0 g f k n e u = along g f 0 k n e (omega arith) (omega arith)
 
 -- past the table there is no line
-pub past-table : (n : ℕ) → 30 ≤ n → noLine ≡ lineAt n
+pub past-table : (n : ℕ) → rowCount ≤ n → noLine ≡ lineAt n
 unfolding lineAt rows
 past-table n h = sym (List·getD-eq-default (map (λ (x : Entry). x .line) rows) noLine h)
 
 -- a column that is the same from Inv St, ack on to the end of the table as past it
-pub from-Inv-St : {A : Type 0} (column : Line → A) (n : ℕ) → map (λ (m : ℕ). column noLine) (upFrom 24 6) ≡ map (λ (m : ℕ). column (lineAt m)) (upFrom 24 6)
+pub from-Inv-St : {A : Type 0} (column : Line → A) (n : ℕ) → map (λ (m : ℕ). column noLine) (upFrom 24 7) ≡ map (λ (m : ℕ). column (lineAt m)) (upFrom 24 7)
     → 24 ≤ n → column noLine ≡ column (lineAt n)
-from-Inv-St column n e l = go (ltb n 30) refl
+from-Inv-St column n e l = go (ltb n rowCount) refl
   where
-    go : (t : Bool) → ltb n 30 ≡ t → column noLine ≡ column (lineAt n)
-    go true q = along (λ m. column noLine) (λ m. column (lineAt m)) 24 6 n e l (ltb-true n 30 q)
-    go false q = ap column (past-table n (ltb-false n 30 q))
+    go : (t : Bool) → ltb n rowCount ≡ t → column noLine ≡ column (lineAt n)
+    go true q = along (λ m. column noLine) (λ m. column (lineAt m)) 24 7 n e l (ltb-true n rowCount q)
+    go false q = ap column (past-table n (ltb-false n rowCount q))
 
 -- from Accel to SCMD each row is Run, but for Mode
 pub run-at : (n : ℕ) → (n ≡ Mode → ⊥) → 7 ≤ n → n < 24 → Run ≡ lineAt n .class

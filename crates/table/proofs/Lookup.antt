@@ -92,7 +92,7 @@ no-adi lo hi n keys e l u h =
 
 -- the ADI numbers but 301 to 322
 abbrev pub others : List ℕ
-others = 34 ∷ 35 ∷ 38 ∷ 323 ∷ 125 ∷ 120 ∷ 39 ∷ []
+others = 34 ∷ 35 ∷ 38 ∷ 323 ∷ 125 ∷ 120 ∷ 39 ∷ 19 ∷ []
 
 -- a number outside of 301 to 322 that is none of them is no row's
 pub no-adi-outside : (n : ℕ) → (n < 301) ⊎ (323 ≤ n) → NoneOf n others → NoRow ≡ rowOfAdi n

@@ -2,7 +2,7 @@
 use mathlib.Core.Path.{_≡_, refl}
 use mathlib.Core.List.{List, [], _∷_, map}
 use Prim.Native.Nat.{ℕ}
-use Rattle.table.specs.Names.{Accel, SpdScl-num, MODE, Inv-St-ack, Inv-St, OpTime}
+use Rattle.table.specs.Names.{Accel, SpdScl-num, MODE, Inv-St-ack, Inv-St, OpTime, Drive-Status}
 use Rattle.table.specs.Table.{rows}
 use Rattle.table.specs.Address.{address, firstRegister}
 use Rattle.table.specs.Find.{firstRow, rowOfE, rowOfSpan}
@@ -33,6 +33,9 @@ labels =
     ∷ leads (rowOfSpan 0x070C 2) (at SpdScl-num)
     ∷ leads (rowOfSpan 0x070D 1) NoRow
     ∷ leads (rowOfSpan 0x02A8 2) (at OpTime)
+    ∷ leads (rowOfSpan 0x0258 1) (at Drive-Status)
+    ∷ leads (rowOfSpan 0x0258 2) NoRow
+    ∷ leads (rowOfSpan 0x0259 1) NoRow
     ∷ []
 
 pub labels-lead : map (λ (l : Leads). l .found) labels ≡ map (λ (l : Leads). l .right) labels

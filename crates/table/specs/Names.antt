@@ -1,4 +1,4 @@
--- The rows by the paper's names. A name is the row's line in document 01's table, counted from 0. Assumes nothing.
+-- The rows by the papers' names. A name is the row's line in the table, counted from 0. Assumes nothing.
 use Prim.Native.Nat.{ℕ}
 
 abbrev pub P-Nom : ℕ
@@ -91,6 +91,9 @@ I-rms = 28
 abbrev pub OpTime : ℕ
 OpTime = 29
 
+abbrev pub Drive-Status : ℕ
+Drive-Status = 30
+
 -- how many rows there are
 abbrev pub rowCount : ℕ
-rowCount = 30
+rowCount = 31

@@ -114,6 +114,7 @@ impl AdiNumber {
             125 => Found::At(Row(FRQ_ACT)),
             120 => Found::At(Row(I_RMS)),
             39 => Found::At(Row(OP_TIME)),
+            19 => Found::At(Row(DRIVE_STATUS)),
             _ => Found::NoRow,
         }
     }

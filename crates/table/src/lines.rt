@@ -33,7 +33,7 @@ impl Row {
         let row = self.0;
         match row {
             SPD_SCL_NUM | SPD_SCL_DEN | I_RMS | OP_TIME => 2,
-            P_NOM..=OP_TIME => 1,
+            P_NOM..=DRIVE_STATUS => 1,
             _ => 0,
         }
     }

@@ -59,5 +59,7 @@ pub const I_RMS: usize = 28;
 
 pub const OP_TIME: usize = 29;
 
+pub const DRIVE_STATUS: usize = 30;
+
 // How many rows there are.
-pub const ROWS: usize = 30;
+pub const ROWS: usize = 31;

@@ -1,4 +1,4 @@
--- `bench_lines::state_line` meets its contract: its four parts, one after the other. Assumes nothing.
+-- `bench_lines::state_line` meets its contract: its parts, one after the other. Assumes nothing.
 use Rattle.bench_lines.specs.State.{stateOf}
 use Rattle.bench_lines.proofs.Laws.{then}
 use borrow.Author.Needs.{needs}
@@ -20,12 +20,15 @@ columns-requires-3 c κs = search needs
 bytes-requires : tie.Need-bytes-requires
 bytes-requires c κs = search needs
 
+spaced-requires : tie.Need-spaced-requires
+spaced-requires c κs = search needs
+
 same-length : tie.Need-same-length
 same-length c = search needs
 
 returns : tie.Need-returns
 unfolding stateOf
-returns c = then _ _ _ _ _ _ _ _ (c .before .before .before .before .before .before .before .before .before .before .before .before .before .before .columns .ensures) (then _ _ _ _ _ _ _ _ (c .before .before .before .before .before .before .before .before .before .before .columns2 .ensures) (then _ _ _ _ _ _ _ _ (c .before .before .before .before .before .before .columns3 .ensures) (c .before .before .bytes .ensures)))
+returns c = then _ _ _ _ _ _ _ _ (c .before .before .before .before .before .before .before .before .before .before .before .before .before .before .before .before .before .before .columns .ensures) (then _ _ _ _ _ _ _ _ (c .before .before .before .before .before .before .before .before .before .before .before .before .before .before .columns2 .ensures) (then _ _ _ _ _ _ _ _ (c .before .before .before .before .before .before .before .before .before .before .columns3 .ensures) (then _ _ _ _ _ _ _ _ (c .before .before .before .before .before .before .bytes .ensures) (c .before .before .spaced .ensures))))
 
 pub state-line-spec : {M : Type 1} → statement M
 state-line-spec =
@@ -36,5 +39,6 @@ state-line-spec =
     columns-requires-2
     columns-requires-3
     bytes-requires
+    spaced-requires
     same-length
     returns)

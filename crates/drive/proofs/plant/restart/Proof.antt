@@ -1,4 +1,5 @@
 -- `drive::restart` meets its contract: SiAdr is what `heal` made of it. Assumes nothing.
+use mathlib.Core.Path.{_∙_}
 use borrow.Author.Needs.{needs}
 use Rattle.drive.specs.Events.{restarted}
 use Rattle.drive.proofs.plant.restart.Statement.{statement}
@@ -18,4 +19,5 @@ restart-spec =
     (λ c. search needs)
     (λ c. search needs)
     (λ c. search needs)
-    (λ c. rw (c .before .heal .ensures)))
+    (λ c κs. search needs)
+    (λ c. c .right-status .ensures ∙ rw (c .before .before .before .heal .ensures)))

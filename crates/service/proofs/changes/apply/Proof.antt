@@ -14,5 +14,6 @@ apply-spec =
     (λ c. search needs)
     (λ c. search needs)
     (λ c κs. search needs)
+    (λ c κs. search needs)
     (λ c. search applied-different)
     (λ c. search applied-same))
