@@ -489,16 +489,6 @@ static void bytes_from_the_line(void)
     scraps("ASCII, small letters, in scraps", CARD_ASCII, TEXT(":010307000001f4\r\n"), 14, TEXT(":0103020001F9\r\n"));
 }
 
-/* The message of Modbus ASCII that these digits are, with its LRC; none for none. */
-static void message_of(char *out, const char *digits)
-{
-    unsigned sum = 0, byte;
-
-    for (const char *d = digits; sscanf(d, "%2X", &byte) == 1; d += 2)
-        sum += byte;
-    sprintf(out, ":%s%02X\r\n", digits, -sum & 0xFF);
-}
-
 /* ---- Inv St */
 /* A question to a card with nothing pending, by each function: what comes of it, and nothing changes. */
 static void asked(uint32_t protocol, const card *c, const char *bytes, size_t n, uint32_t outcome, const char *reply, size_t len)
@@ -561,7 +551,17 @@ static void statuses(void)
 }
 
 /* ---- Drive Status */
-/* A message on Modbus ASCII, its LRC and its CR LF added, and the one that answers it, by each function, and what it leaves. */
+/* The message of Modbus ASCII that these digits are, with `:`, LRC and CR LF around them. */
+static void message_of(char *out, const char *digits)
+{
+    unsigned sum = 0, byte;
+
+    for (const char *d = digits; sscanf(d, "%2X", &byte) == 1; d += 2)
+        sum += byte;
+    sprintf(out, ":%s%02X\r\n", digits, -sum & 0xFF);
+}
+
+/* A message on Modbus ASCII, and the one that answers it, each by its digits, by each function, and what it leaves. */
 static void sent(const card *c, const char *request, uint32_t outcome, const char *answer, const card *right)
 {
     char bytes[40], reply[40];

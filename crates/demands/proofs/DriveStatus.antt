@@ -16,23 +16,30 @@ use Rattle.demands.specs.Effects.{DriveStatus}
 by-test : (b t : Bool) (A : Type 0) → b ≡ t → (t ≡ true) ↔ A → (b ≡ true) ↔ A
 by-test b t A e (out, back) = (λ h. out (sym e ∙ h), λ a. e ∙ back a)
 
+-- a number that is not 0, and one that is, by their tests
+not-0 : (x : ℕ) → (not (eqb x 0) ≡ true) ↔ (x ≢ 0)
+not-0 x = (λ t. eqb-false x 0 (not-true (eqb x 0) t), λ n. rw (ne-eqb x 0 n))
+
+is-0 : (x : ℕ) → (not (not (eqb x 0)) ≡ true) ↔ (x ≡ 0)
+is-0 x = (λ t. eqb-true x 0 (not-false (eqb x 0) (not-true (not (eqb x 0)) t)), λ e. rw (eq-eqb x 0 e))
+
 module _ (p : Plant) where
   -- the tests of the drive, each in words
   active-is : (active p ≡ true) ↔ (din1 p ≢ 0)
   unfolding active
-  active-is = (λ a. eqb-false (din1 p) 0 (not-true (eqb (din1 p) 0) a), λ n. rw (ne-eqb (din1 p) 0 n))
+  active-is = not-0 (din1 p)
 
   inactive-is : (not (active p) ≡ true) ↔ (din1 p ≡ 0)
   unfolding active
-  inactive-is = (λ a. eqb-true (din1 p) 0 (not-false (eqb (din1 p) 0) (not-true (not (eqb (din1 p) 0)) a)), λ e. rw (eq-eqb (din1 p) 0 e))
+  inactive-is = is-0 (din1 p)
 
   fault-is : (flagStands p ≡ true) ↔ (flags p ≢ 0)
   unfolding flagStands
-  fault-is = (λ a. eqb-false (flags p) 0 (not-true (eqb (flags p) 0) a), λ n. rw (ne-eqb (flags p) 0 n))
+  fault-is = not-0 (flags p)
 
   calm-is : (not (flagStands p) ≡ true) ↔ (flags p ≡ 0)
   unfolding flagStands
-  calm-is = (λ a. eqb-true (flags p) 0 (not-false (eqb (flags p) 0) (not-true (not (eqb (flags p) 0)) a)), λ e. rw (eq-eqb (flags p) 0 e))
+  calm-is = is-0 (flags p)
 
   mode-is : (k : ℕ) → (eqb (mode p) k ≡ true) ↔ (mode p ≡ k)
   mode-is k = (eqb-true (mode p) k, eq-eqb (mode p) k)
@@ -65,11 +72,11 @@ module _ (p : Plant) where
       out (inl a) = inl (free-at 2 .0 a)
       out (inr b) =
           let t = both-out (eqb (mode p) 3) (not (eqb (scmd p) 0)) b in
-          inr (mode-is 3 .0 (t .0), eqb-false (scmd p) 0 (not-true (eqb (scmd p) 0) (t .1)))
+          inr (mode-is 3 .0 (t .0), not-0 (scmd p) .0 (t .1))
 
       back : ((mode p ≡ 2) × (din1 p ≢ 0) × (flags p ≡ 0)) ⊎ ((mode p ≡ 3) × (scmd p ≢ 0)) → either auto bus ≡ true
       back (inl a) = either-left auto bus (free-at 2 .1 a)
-      back (inr (m, s)) = either-right auto bus (both-in (mode-is 3 .1 m) (rw (ne-eqb (scmd p) 0 s)))
+      back (inr (m, s)) = either-right auto bus (both-in (mode-is 3 .1 m) (not-0 (scmd p) .1 s))
 
   pub word-says : DriveStatus p (statusWord p)
   word-says =
