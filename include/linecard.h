@@ -15,19 +15,16 @@
 /* The protocol of the port, chosen at start. Any other number is read as NFO serial. */
 enum card_protocol { CARD_NFO = 0, CARD_RTU = 1, CARD_ASCII = 2 };
 
-/* The method by which the drive is steered, chosen at start: MODE and SCMD, or the bits of Drive Control. Any other number is read as CARD_BY_SCMD. */
-enum card_method { CARD_BY_SCMD = 1, CARD_BY_BITS = 2 };
-
 /* The outcome of a call, by document 01's number. (13 and 14 are the master's.) */
 enum card_outcome {
     CARD_DONE = 0,
     CARD_NOT_OURS = 1,        /* other address, or broadcast read */
-    CARD_NO_ROW = 2,          /* no such row, register span or object; a read of the mask */
+    CARD_NO_ROW = 2,          /* no such row, register span or object */
     CARD_READ_ONLY = 3,
     CARD_NOT_ALLOWED = 4,     /* value not allowed */
-    CARD_FLAG_STANDS = 5,     /* a write while a fault flag stands, but for a word of Drive Control that acknowledges */
+    CARD_FLAG_STANDS = 5,     /* a write while a fault flag stands */
     CARD_RUNNING = 6,         /* Init row, running */
-    CARD_NOT_PERMITTED = 7,   /* SCMD not permitted; a bit of Drive Control out of turn; a row of the other method */
+    CARD_NOT_PERMITTED = 7,   /* SCMD not permitted */
     CARD_MALFORMED = 8,       /* value not hex; bad length, count or identification code */
     CARD_UNKNOWN = 9,         /* unknown function, or 43 with a type that is not 14 */
     CARD_SHORT_BUFFER = 10,   /* reply buffer under the protocol's CARD_REPLY_LEAST: no byte used, nothing changed */
@@ -43,19 +40,17 @@ enum card_outcome {
 #define CARD_REPLY_LEAST(protocol) ((protocol) == CARD_RTU ? CARD_RTU_REPLY : (protocol) == CARD_ASCII ? CARD_ASCII_REPLY : CARD_NFO_REPLY)
 
 /* The words of a plant: each row of the table at its line, two's complement, and behind the rows the numbers that are no rows. The paper's Mode and MODE are
- * CARD_MODE_SETTING and CARD_MODE. The words at Inv St, which is worked out, at SioErr, which is the port's, and at the mask, which is only written, hold nothing. Drive
- * Status is kept: each call that changes the drive leaves it right, by the bits of enum card_status. Drive Control is the word that is stored, 0 by method 1. */
+ * CARD_MODE_SETTING and CARD_MODE. The words at Inv St, which is worked out, and at SioErr, which is the port's, hold nothing. Drive Status is kept: each call that changes the
+ * drive leaves it right, by the bits of enum card_status. */
 enum card_word {
     CARD_P_NOM, CARD_U_NOM, CARD_F_NOM, CARD_N_NOM, CARD_COS_PHI, CARD_I_MAGN, CARD_I_LIMT, CARD_ACCEL,
     CARD_RETARD, CARD_MODE_SETTING, CARD_FR_MIN, CARD_FR_MAX, CARD_R_FIX1, CARD_REG_AMP, CARD_SI_BAUD, CARD_SI_PROT,
     CARD_SI_ADR, CARD_SIO_TOT, CARD_MB_ADR, CARD_SPD_SCL_NUM, CARD_SPD_SCL_DEN, CARD_SETPOINT, CARD_MODE, CARD_SCMD,
     CARD_INV_ST_ACK, CARD_INV_ST, CARD_SIO_ERR, CARD_FRQ_ACT, CARD_I_RMS, CARD_OP_TIME, CARD_DRIVE_STATUS,
-    CARD_DRIVE_CONTROL, CARD_CONTROL_MASK,
     CARD_DIN1,    /* 0 is inactive */
     CARD_CAUSES,  /* bit n is fault n */
     CARD_FLAGS,   /* bit n is fault n */
     CARD_STATION, /* our Modbus address: what MbAdr held at the last start or restart */
-    CARD_METHOD,  /* enum card_method */
     CARD_WORDS
 };
 
@@ -63,18 +58,9 @@ enum card_word {
 enum card_status {
     CARD_READY = 0x0001,    /* MODE 3, DIN1 active, no flag */
     CARD_RUNS = 0x0002,
-    CARD_ENABLED = 0x0004,  /* bit 3 of Drive Control is stored */
     CARD_FAULT = 0x0008,    /* a fault flag stands */
     CARD_INACTIVE = 0x0040, /* DIN1 */
     CARD_BUS = 0x0200       /* MODE 3 */
-};
-
-/* The bits of Drive Control; the others are stored, and have no meaning here. */
-enum card_control {
-    CARD_BUS_CONTROL = 0x4000, /* MODE is 3 while it is stored, and 1 otherwise */
-    CARD_ENABLE = 0x0008,      /* only where bus control was stored before and is written too */
-    CARD_SWITCH_ON = 0x0001,   /* running: only where enable was stored before and is written too, and DIN1 is active */
-    CARD_ACKNOWLEDGE = 0x0080  /* acknowledges as a read of Inv St does, and is never stored */
 };
 
 /* The numbers of a port: its protocol, its time sum in tenths, its SioErr. */
@@ -100,31 +86,30 @@ typedef struct card {
 } card;
 
 static_assert(sizeof(size_t) == 8, "x86-64");
-static_assert(CARD_WORDS == 38 && CARD_NUMBERS == 3 && CARD_IDENTITY == 41, "the arrays that the library is lent");
+static_assert(CARD_WORDS == 35 && CARD_NUMBERS == 3 && CARD_IDENTITY == 41, "the arrays that the library is lent");
 
 #ifdef __cplusplus
 extern "C" {
 #endif
 
 /* ---- what the library has: each is lent the parts of a card that it touches */
-void card_start_in(uint8_t held[512], size_t *len, uint32_t port[3], uint32_t plant[38], uint8_t identity[41], uint32_t protocol, uint32_t method,
-                   const uint8_t given[41]);
-void card_restart_in(size_t *len, uint32_t port[3], uint32_t plant[38]);
-uint32_t card_raise_fault_in(uint32_t plant[38], uint32_t n);
-uint32_t card_end_cause_in(uint32_t plant[38], uint32_t n);
-uint32_t card_din1_in(uint32_t plant[38], uint32_t active);
-uint32_t card_frq_act_in(uint32_t plant[38], uint32_t word);
-uint32_t card_i_rms_in(uint32_t plant[38], uint32_t word);
-uint32_t card_op_time_in(uint32_t plant[38], uint32_t word);
-uint32_t card_parity_fault_in(uint32_t port[3], uint32_t plant[38]);
-uint32_t card_tick_in(uint32_t port[3], uint32_t plant[38], uint32_t tenths);
-uint32_t card_receive_in(uint8_t held[512], size_t *len, uint32_t port[3], uint32_t plant[38], const uint8_t identity[41],
+void card_start_in(uint8_t held[512], size_t *len, uint32_t port[3], uint32_t plant[35], uint8_t identity[41], uint32_t protocol, const uint8_t given[41]);
+void card_restart_in(size_t *len, uint32_t port[3], uint32_t plant[35]);
+uint32_t card_raise_fault_in(uint32_t plant[35], uint32_t n);
+uint32_t card_end_cause_in(uint32_t plant[35], uint32_t n);
+uint32_t card_din1_in(uint32_t plant[35], uint32_t active);
+uint32_t card_frq_act_in(uint32_t plant[35], uint32_t word);
+uint32_t card_i_rms_in(uint32_t plant[35], uint32_t word);
+uint32_t card_op_time_in(uint32_t plant[35], uint32_t word);
+uint32_t card_parity_fault_in(uint32_t port[3], uint32_t plant[35]);
+uint32_t card_tick_in(uint32_t port[3], uint32_t plant[35], uint32_t tenths);
+uint32_t card_receive_in(uint8_t held[512], size_t *len, uint32_t port[3], uint32_t plant[35], const uint8_t identity[41],
                          const uint8_t *bytes, size_t n_bytes, uint8_t *reply, size_t n_reply, size_t told[2]);
-uint32_t card_receive_nfo_in(uint8_t held[512], size_t *len, uint32_t port[3], uint32_t plant[38],
+uint32_t card_receive_nfo_in(uint8_t held[512], size_t *len, uint32_t port[3], uint32_t plant[35],
                              const uint8_t *bytes, size_t n_bytes, uint8_t *reply, size_t n_reply, size_t told[2]);
-uint32_t card_receive_rtu_in(uint8_t held[512], size_t *len, uint32_t port[3], uint32_t plant[38], const uint8_t identity[41],
+uint32_t card_receive_rtu_in(uint8_t held[512], size_t *len, uint32_t port[3], uint32_t plant[35], const uint8_t identity[41],
                              const uint8_t *bytes, size_t n_bytes, uint8_t *reply, size_t n_reply, size_t told[2]);
-uint32_t card_receive_ascii_in(uint8_t held[512], size_t *len, uint32_t port[3], uint32_t plant[38], const uint8_t identity[41],
+uint32_t card_receive_ascii_in(uint8_t held[512], size_t *len, uint32_t port[3], uint32_t plant[35], const uint8_t identity[41],
                                const uint8_t *bytes, size_t n_bytes, uint8_t *reply, size_t n_reply, size_t told[2]);
 
 /* Where the register data of a well-made RTU 06 or 16 lies in its frame, whatever its address: place[0] its first place, place[1] its length; for other
@@ -136,22 +121,22 @@ void card_register_data(const uint8_t *frame, size_t n_frame, size_t place[2]);
 #endif
 
 /* ---- what a host calls */
-/* A fresh card, steered by this method, with the table's start words: SioTot is 50, 5 seconds. The identity given, which lies outside the card, is copied into it.
- * Whatever the memory held before will do. */
-static inline void card_start(card *c, uint32_t protocol, uint32_t method, const uint8_t identity[CARD_IDENTITY])
+/* A fresh card, with the table's start words: SioTot is 50, 5 seconds. The identity given, which lies outside the card, is copied into it. Whatever the memory
+ * held before will do. */
+static inline void card_start(card *c, uint32_t protocol, const uint8_t identity[CARD_IDENTITY])
 {
-    card_start_in(c->port.pending.bytes, &c->port.pending.len, c->port.numbers, c->plant, c->identity, protocol, method, identity);
+    card_start_in(c->port.pending.bytes, &c->port.pending.len, c->port.numbers, c->plant, c->identity, protocol, identity);
 }
 
-/* Restart: the settings, SioTot among them, DIN1, causes, measured numbers, the method and the identity stay; nothing is pending; no bit of Drive Control is stored;
- * MbAdr counts from now on. A SiAdr of 0 or 95, kept from before these were refused, becomes 1. */
+/* Restart: the settings, SioTot among them, DIN1, causes, measured numbers and the identity stay; nothing is pending; MbAdr counts from now on. A SiAdr of 0 or
+ * 95, kept from before these were refused, becomes 1. */
 static inline void card_restart(card *c) { card_restart_in(&c->port.pending.len, c->port.numbers, c->plant); }
 
 /* Fault n is raised, or its cause has ended: 0, or 12 where n is none of 1 to 13 and 16 to 23. */
 static inline uint32_t card_raise_fault(card *c, uint32_t n) { return card_raise_fault_in(c->plant, n); }
 static inline uint32_t card_end_cause(card *c, uint32_t n) { return card_end_cause_in(c->plant, n); }
 
-/* DIN1 becomes inactive, by 0, or active, by any other number: 0. Where it becomes inactive, SCMD is 0 and switch on is cleared. */
+/* DIN1 becomes inactive, by 0, or active, by any other number: 0. */
 static inline uint32_t card_din1(card *c, uint32_t active) { return card_din1_in(c->plant, active); }
 
 /* A number is measured: 0. FrqAct is the low 16 bits of the word; FrqAct and I-rms are two's complement. */
@@ -163,7 +148,7 @@ static inline uint32_t card_op_time(card *c, uint32_t word) { return card_op_tim
 static inline uint32_t card_parity_fault(card *c) { return card_parity_fault_in(c->port.numbers, c->plant); }
 
 /* So many tenths of a second pass: 0, or 12 outside 1 to 250. Where those since the last message of ours come to more than SioTot, a time-out happens: bit 0 of SioErr,
- * and at MODE 3 flag 14 stands, SCMD is 0, and enable and switch on are cleared. SioTot 0 is no time-out. */
+ * and at MODE 3 SCMD is 0 and flag 14 stands. SioTot 0 is no time-out. */
 static inline uint32_t card_tick(card *c, uint32_t tenths) { return card_tick_in(c->port.numbers, c->plant, tenths); }
 
 /* Bytes from the line: a scrap of the stream, or for RTU one frame. Serves the first message taken and puts its reply at the start of `reply`, whose

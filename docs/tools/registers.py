@@ -16,8 +16,8 @@ HEADING = "## The registers"
 HEAD = ["Name", "E", "ADI", "Register", "Hex", "Width", "Written", "Allowed", "Start", "What it is"]
 
 # the papers' names where they are no single word
-NAMES = {"SpdScl-num": "SpdScl num", "SpdScl-den": "SpdScl den", "Inv-St-ack": "Inv St, ack", "Inv-St": "Inv St", "Drive-Status": "Drive Status", "Drive-Control": "Drive Control", "Control-Mask": "Control mask"}
-WRITTEN = {"Init": "standing", "Run": "always", "OnlyRead": "never", "OnlyWrite": "always; not read"}
+NAMES = {"SpdScl-num": "SpdScl num", "SpdScl-den": "SpdScl den", "Inv-St-ack": "Inv St, ack", "Inv-St": "Inv St", "Drive-Status": "Drive Status"}
+WRITTEN = {"Init": "standing", "Run": "always", "OnlyRead": "never"}
 
 # document 01 has no units: the card stores numbers. What they count is from its sources, S2 for rows with an E number and S1 for the others.
 MEANING = {
@@ -52,8 +52,6 @@ MEANING = {
     "I-rms": "current, 0.001 A",
     "OpTime": "time in operation, 0.01 h",
     "Drive Status": "status by bits; reading changes nothing",
-    "Drive Control": "control by bits: 14 bus control, 3 enable, 0 switch on, 7 acknowledge",
-    "Control mask": "Drive Control AND its first register, OR its second",
 }
 
 
@@ -105,8 +103,6 @@ def allowed(word):
     """The column Allowed in document 01's words."""
     if word == "Nothing":
         return "-"
-    if word == "AnyWord":
-        return "any bits"
     if word == "BelowLimt":
         return "0..I-limt−1"
     if word == "ByMode":
@@ -126,7 +122,7 @@ def allowed(word):
     raise Bad("no column Allowed: %s" % word)
 
 
-ROW = re.compile(r"row (\S+) (?:\(E 0x([0-9A-F]{4})\)|(no-E)) \((ADI|register) (\w+)\) ([12]) (.*) (Init|Run|OnlyRead|OnlyWrite) (?:\(Word (\d+)\)|NoWord)")
+ROW = re.compile(r"row (\S+) (?:\(E 0x([0-9A-F]{4})\)|(no-E)) \((ADI|register) (\w+)\) ([12]) (.*) (Init|Run|OnlyRead) (?:\(Word (\d+)\)|NoWord)")
 
 
 def rows():

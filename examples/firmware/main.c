@@ -16,12 +16,12 @@ static void line_write(uint32_t outcome, const uint8_t *reply, size_t n)
 
 int main(void)
 {
-    static card c;              /* the card's memory: 736 bytes of the host's */
+    static card c;              /* the card's memory: 720 bytes of the host's */
     static const char identity[] = "Revision 02.03 C " "LineCard" "0000000000000001";
     uint8_t scrap[16], reply[CARD_REPLY_LEAST(CARD_NFO)];
     size_t n, told[2];
 
-    card_start(&c, CARD_NFO, CARD_BY_SCMD, (const uint8_t *)identity);
+    card_start(&c, CARD_NFO, (const uint8_t *)identity);
     card_din1(&c, 1);
     while ((n = line_read(scrap, sizeof scrap)) > 0) {
         card_tick(&c, 1);       /* a tenth has passed */

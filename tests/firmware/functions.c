@@ -21,13 +21,13 @@ static const uint8_t given[CARD_IDENTITY + 1] = REVISION MODEL SERIAL;
 static_assert(sizeof REVISION == 17 + 1 && sizeof MODEL == 8 + 1 && sizeof SERIAL == 16 + 1, "an identity");
 
 #if defined ALL_FOR_NFO
-uint32_t exchanged_in(uint8_t held[512], size_t *len, uint32_t port[3], uint32_t plant[38],
+uint32_t exchanged_in(uint8_t held[512], size_t *len, uint32_t port[3], uint32_t plant[35],
                       const uint8_t *bytes, size_t n_bytes, uint8_t *reply, size_t n_reply, size_t told[2])
 {
     return card_receive_in(held, len, port, plant, given, bytes, n_bytes, reply, n_reply, told);
 }
 #elif defined NFO_FOR_ALL
-uint32_t exchanged_in(uint8_t held[512], size_t *len, uint32_t port[3], uint32_t plant[38], const uint8_t identity[41],
+uint32_t exchanged_in(uint8_t held[512], size_t *len, uint32_t port[3], uint32_t plant[35], const uint8_t identity[41],
                       const uint8_t *bytes, size_t n_bytes, uint8_t *reply, size_t n_reply, size_t told[2])
 {
     (void)identity;
@@ -35,7 +35,6 @@ uint32_t exchanged_in(uint8_t held[512], size_t *len, uint32_t port[3], uint32_t
 }
 #endif
 
-enum { TOLD = 100 };            /* so many that do not hold are lines */
 static const char *part = "";   /* what is looked at */
 static unsigned long held, wrong;
 
@@ -43,7 +42,7 @@ static void same(const char *what, unsigned long long saw, unsigned long long ri
 {
     held += saw == right;
     wrong += saw != right;
-    if (saw != right && wrong <= TOLD)
+    if (saw != right && wrong <= 100)
         printf("functions: %s: %s: saw %llu, should be %llu\n", part, what, saw, right);
 }
 
@@ -52,32 +51,23 @@ static void same(const char *what, unsigned long long saw, unsigned long long ri
 static void same_at(const char *what, size_t at, unsigned long long saw, unsigned long long right)
 {
     char place[80];
-    place[0] = '\0';
-    if (saw != right && wrong < TOLD)
-        snprintf(place, sizeof place, "%s[%zu]", what, at);
+    snprintf(place, sizeof place, "%s[%zu]", what, at);
     same(place, saw, right);
 }
 
-/* So many bytes or words, by their size. Most are the same, and are counted at once. */
-static void same_all(const char *what, const void *saw, const void *right, size_t n, size_t size)
+static void same_bytes(const char *what, const uint8_t *saw, const uint8_t *right, size_t n)
 {
-    const uint8_t *bytes = saw, *right_bytes = right;
-    const uint32_t *words = saw, *right_words = right;
-    int equal = !memcmp(saw, right, n * size);
-
-    held += equal ? n : 0;
-    for (size_t i = 0; !equal && i < n; i++)
-        same_at(what, i, size == 1 ? bytes[i] : words[i], size == 1 ? right_bytes[i] : right_words[i]);
+    for (size_t i = 0; i < n; i++)
+        same_at(what, i, saw[i], right[i]);
 }
-
-static void same_bytes(const char *what, const uint8_t *saw, const uint8_t *right, size_t n) { same_all(what, saw, right, n, 1); }
-static void same_numbers(const char *what, const uint32_t *saw, const uint32_t *right, size_t n) { same_all(what, saw, right, n, 4); }
 
 /* All of a card but its bytes pending. */
 static void same_words(const card *saw, const card *right)
 {
-    same_numbers("port.numbers", saw->port.numbers, right->port.numbers, CARD_NUMBERS);
-    same_numbers("plant", saw->plant, right->plant, CARD_WORDS);
+    for (size_t i = 0; i < CARD_NUMBERS; i++)
+        same_at("port.numbers", i, saw->port.numbers[i], right->port.numbers[i]);
+    for (size_t i = 0; i < CARD_WORDS; i++)
+        same_at("plant", i, saw->plant[i], right->plant[i]);
     same_bytes("identity", saw->identity, right->identity, CARD_IDENTITY);
 }
 
@@ -88,36 +78,21 @@ static void same_card(const card *saw, const card *right)
     same_words(saw, right);
 }
 
-/* "A method is chosen at start: 1, MODE and SCMD, or 2, these bits"; and the bits of Drive Control that have a meaning. */
-enum { BY_SCMD = 1, BY_BITS = 2 };
-enum { BUS = 1 << 14, ENABLE = 1 << 3, SWITCH_ON = 1 << 0, ACKNOWLEDGE = 1 << 7 };
-
 /* A fresh card over memory that held other bytes. */
-static card fresh_by(uint32_t protocol, uint32_t method)
+static card fresh(uint32_t protocol)
 {
     card c;
     memset(&c, 0x5A, sizeof c);
-    card_start(&c, protocol, method, given);
+    card_start(&c, protocol, given);
     return c;
 }
 
-static card fresh(uint32_t protocol) { return fresh_by(protocol, BY_SCMD); }
-
-/* Any method but 2 counts as 1. With 2, "running is bit 0". */
-static int runs(const card *c)
-{
-    const uint32_t *p = c->plant;
-    if (p[CARD_METHOD] == BY_BITS)
-        return (p[CARD_DRIVE_CONTROL] & SWITCH_ON) != 0;
-    return (p[CARD_MODE] == 2 && p[CARD_DIN1] && !p[CARD_FLAGS]) || (p[CARD_MODE] == 3 && p[CARD_SCMD]);
-}
-
-/* Drive Status by document 02: "0 ready (MODE 3, DIN1 active, no flag), 1 running, 3 a fault flag stands, 6 DIN1 inactive, 9 MODE 3; the others 0", but that 2 "is now
- * stored bit 3". */
+/* Drive Status by document 02: "0 ready (MODE 3, DIN1 active, no flag), 1 running, 3 a fault flag stands, 6 DIN1 inactive, 9 MODE 3; the others 0". */
 static uint32_t drive_status(const card *c)
 {
-    int bus = c->plant[CARD_MODE] == 3, active = c->plant[CARD_DIN1] != 0, flag = c->plant[CARD_FLAGS] != 0, enabled = (c->plant[CARD_DRIVE_CONTROL] & ENABLE) != 0;
-    return (uint32_t)((bus && active && !flag) << 0 | runs(c) << 1 | enabled << 2 | flag << 3 | !active << 6 | bus << 9);
+    int bus = c->plant[CARD_MODE] == 3, active = c->plant[CARD_DIN1] != 0, flag = c->plant[CARD_FLAGS] != 0;
+    int running = (c->plant[CARD_MODE] == 2 && active && !flag) || (bus && c->plant[CARD_SCMD] != 0);
+    return (uint32_t)((bus && active && !flag) << 0 | running << 1 | flag << 3 | !active << 6 | bus << 9);
 }
 
 /* What a change of the drive leaves: "The word is stored". What changes nothing leaves it as it is, right or not. */
@@ -126,33 +101,16 @@ static void righted(card *c)
     c->plant[CARD_DRIVE_STATUS] = drive_status(c);
 }
 
-/* "SCMD becomes 0 when .. a fault flag is raised", and "A fault clears 0 and 3". */
-static void halted(card *c)
-{
-    c->plant[CARD_SCMD] = 0;
-    c->plant[CARD_DRIVE_CONTROL] &= ~(uint32_t)(SWITCH_ON | ENABLE);
-    righted(c);
-}
-
-/* The card at a MODE, where it is to run by SCMD or by bits: with method 2 "MODE is 3 while bit 14 is stored and 1 otherwise"; another bit is stored beside it. */
-static void at_mode(card *c, uint32_t mode)
-{
-    int bits = c->plant[CARD_METHOD] == BY_BITS;
-    c->plant[CARD_MODE] = mode;
-    c->plant[CARD_SCMD] = bits ? 0 : 129;
-    c->plant[CARD_DRIVE_CONTROL] = !bits ? 0 : mode == 3 ? 0x1000 | BUS | ENABLE | SWITCH_ON : 0x1000;
-}
-
-/* A card that runs at MODE 3, with something in every part of it, and any number for its method. */
-static card driving(uint32_t method)
+/* A card that runs at MODE 3, with something in every part of it. */
+static card driving(void)
 {
     card c = fresh(CARD_ASCII);
-    c.plant[CARD_METHOD] = method;
     c.plant[CARD_ACCEL] = 147;
     c.plant[CARD_MB_ADR] = 17;
     c.plant[CARD_SIO_TOT] = 10;
+    c.plant[CARD_MODE] = 3;
+    c.plant[CARD_SCMD] = 129;
     c.plant[CARD_DIN1] = 1;
-    at_mode(&c, 3);
     c.plant[CARD_FRQ_ACT] = 7;
     c.plant[CARD_I_RMS] = 8;
     c.plant[CARD_OP_TIME] = 9;
@@ -164,67 +122,51 @@ static card driving(uint32_t method)
 }
 
 /* ---- start and restart */
-/* The column Start; "At start DIN1 is inactive and no cause stands"; "The stored word starts at 0". The rows that hold nothing are 0 by the library's own. */
-static void start_words(const card *c)
-{
-    static const uint32_t column[] = { 150, 400, 50, 1500, 80, 100, 1000, 50, 50, 0, 0, 500, 0, 1, 128, 0, 1, 50, 1, 1, 1, 0 };
-
-    same_numbers("plant", c->plant, column, sizeof column / sizeof column[0]);
-    SAME(c->plant[CARD_MODE], 1);
-    SAME(c->plant[CARD_SCMD], 0);
-    SAME(c->plant[CARD_FRQ_ACT], 0);
-    SAME(c->plant[CARD_I_RMS], 0);
-    SAME(c->plant[CARD_OP_TIME], 0);
-    SAME(c->plant[CARD_DRIVE_STATUS], 0x0040);
-    SAME(c->plant[CARD_DRIVE_CONTROL], 0);
-    SAME(c->plant[CARD_CONTROL_MASK], 0);
-    SAME(c->plant[CARD_DIN1], 0);
-    SAME(c->plant[CARD_CAUSES], 0);
-    SAME(c->plant[CARD_FLAGS], 0);
-    SAME(c->plant[CARD_STATION], 1);
-}
-
-/* A fresh card, by a protocol and a method as they are asked for, and as they are then; the identity is the one given, whatever its bytes are, and that one stays. */
-static void started(const uint32_t protocol[2], const uint32_t method[2])
-{
-    uint8_t other[CARD_IDENTITY];
-    card c = fresh_by(protocol[0], method[0]), d;
-
-    SAME(c.port.pending.len, 0);
-    SAME(c.port.numbers[CARD_PROTOCOL], protocol[1]);
-    SAME(c.port.numbers[CARD_SUM], 0);
-    SAME(c.port.numbers[CARD_SIOERR], 0);
-    start_words(&c);
-    SAME(c.plant[CARD_METHOD], method[1]);
-    same_bytes("identity", c.identity, given, CARD_IDENTITY);
-    same_bytes("identity, the model", c.identity + CARD_MODEL, (const uint8_t *)MODEL, 8);
-    same_bytes("identity, the serial number", c.identity + CARD_SERIAL, (const uint8_t *)SERIAL, 16);
-    memset(&d, 0xA5, sizeof d);
-    card_start_in(d.port.pending.bytes, &d.port.pending.len, d.port.numbers, d.plant, d.identity, protocol[0], method[0], given);
-    same_card(&d, &c);
-    for (size_t i = 0; i < CARD_IDENTITY; i++)
-        c.identity[i] = other[i] = (uint8_t)(7 * i + protocol[0]);
-    card_start_in(d.port.pending.bytes, &d.port.pending.len, d.port.numbers, d.plant, d.identity, protocol[0], method[0], other);
-    same_card(&d, &c);
-    same_bytes("the identity given", other, c.identity, CARD_IDENTITY);
-}
-
+/* The column Start; "At start DIN1 is inactive and no cause stands"; the identity is the one given, whatever its bytes are, and that one stays. */
 static void start(void)
 {
+    static const uint32_t column[] = { 150, 400, 50, 1500, 80, 100, 1000, 50, 50, 0, 0, 500, 0, 1, 128, 0, 1, 50, 1, 1, 1, 0 };
     static const uint32_t protocols[][2] = { { CARD_NFO, CARD_NFO }, { CARD_RTU, CARD_RTU }, { CARD_ASCII, CARD_ASCII }, { 7, CARD_NFO } };
-    static const uint32_t methods[][2] = { { BY_SCMD, BY_SCMD }, { BY_BITS, BY_BITS }, { 0, BY_SCMD }, { 3, BY_SCMD }, { UINT32_MAX, BY_SCMD } };
+    uint8_t other[CARD_IDENTITY];
 
     part = "start";
-    for (size_t k = 0; k < sizeof protocols / sizeof protocols[0]; k++)
-        for (size_t m = 0; m < sizeof methods / sizeof methods[0]; m++)
-            started(protocols[k], methods[m]);
+    for (size_t k = 0; k < sizeof protocols / sizeof protocols[0]; k++) {
+        card c = fresh(protocols[k][0]), d;
+        SAME(c.port.pending.len, 0);
+        SAME(c.port.numbers[CARD_PROTOCOL], protocols[k][1]);
+        SAME(c.port.numbers[CARD_SUM], 0);
+        SAME(c.port.numbers[CARD_SIOERR], 0);
+        for (size_t i = 0; i < sizeof column / sizeof column[0]; i++)
+            same_at("plant", i, c.plant[i], column[i]);
+        SAME(c.plant[CARD_MODE], 1);
+        SAME(c.plant[CARD_SCMD], 0);
+        SAME(c.plant[CARD_FRQ_ACT], 0);
+        SAME(c.plant[CARD_I_RMS], 0);
+        SAME(c.plant[CARD_OP_TIME], 0);
+        SAME(c.plant[CARD_DRIVE_STATUS], 0x0040);
+        SAME(c.plant[CARD_DIN1], 0);
+        SAME(c.plant[CARD_CAUSES], 0);
+        SAME(c.plant[CARD_FLAGS], 0);
+        SAME(c.plant[CARD_STATION], 1);
+        same_bytes("identity", c.identity, given, CARD_IDENTITY);
+        same_bytes("identity, the model", c.identity + CARD_MODEL, (const uint8_t *)MODEL, 8);
+        same_bytes("identity, the serial number", c.identity + CARD_SERIAL, (const uint8_t *)SERIAL, 16);
+        memset(&d, 0xA5, sizeof d);
+        card_start_in(d.port.pending.bytes, &d.port.pending.len, d.port.numbers, d.plant, d.identity, protocols[k][0], given);
+        same_card(&d, &c);
+        for (size_t i = 0; i < CARD_IDENTITY; i++)
+            c.identity[i] = other[i] = (uint8_t)(7 * i + k);
+        card_start_in(d.port.pending.bytes, &d.port.pending.len, d.port.numbers, d.plant, d.identity, protocols[k][0], other);
+        same_card(&d, &c);
+        same_bytes("the identity given", other, c.identity, CARD_IDENTITY);
+    }
 }
 
 /* "Restart keeps rows 301 to 322, DIN1, causes and measured numbers; flags become the standing causes; MODE 1, SCMD, SioErr and sum 0, nothing pending."
- * Our Modbus address "is what MbAdr held at the last start or restart". The stored word: "restart clears it". The method and the identity stay. */
-static void restart(uint32_t method)
+ * Our Modbus address "is what MbAdr held at the last start or restart". The identity stays. */
+static void restart(void)
 {
-    card c = driving(method), d, right;
+    card c = driving(), d, right;
 
     part = "restart";
     c.plant[CARD_CAUSES] = 1u << 3;
@@ -234,7 +176,6 @@ static void restart(uint32_t method)
     right.plant[CARD_FLAGS] = 1u << 3;
     right.plant[CARD_MODE] = 1;
     right.plant[CARD_SCMD] = 0;
-    right.plant[CARD_DRIVE_CONTROL] = 0;
     right.plant[CARD_STATION] = 17;
     righted(&right);
     right.port.numbers[CARD_SUM] = 0;
@@ -247,19 +188,21 @@ static void restart(uint32_t method)
 }
 
 /* ---- host events */
-/* "Faults 1 to 13 and 16 to 23 each have a cause and a flag. The host raises one (both set) or ends a cause (the flag stays)". Any other number is 12, and
- * nothing changes. */
-static void fault(uint32_t method, uint32_t n)
+/* "Faults 1 to 13 and 16 to 23 each have a cause and a flag. The host raises one (both set) or ends a cause (the flag stays)"; "SCMD becomes 0 when .. a
+ * fault flag is raised". Any other number is 12, and nothing changes. */
+static void fault(uint32_t n)
 {
     int known = (1 <= n && n <= 13) || (16 <= n && n <= 23);
     uint32_t outcome = known ? CARD_DONE : CARD_NO_SUCH_EVENT, bit = known ? 1u << n : 0;
-    card c = driving(method), d = c, right = c;
+    card c = driving(), d = c, right = c;
 
     part = "raise fault";
     right.plant[CARD_CAUSES] |= bit;
     right.plant[CARD_FLAGS] |= bit;
-    if (known)
-        halted(&right);
+    if (known) {
+        right.plant[CARD_SCMD] = 0;
+        righted(&right);
+    }
     SAME(card_raise_fault(&c, n), outcome);
     same_card(&c, &right);
     SAME(card_raise_fault_in(d.plant, n), outcome);
@@ -273,16 +216,15 @@ static void fault(uint32_t method, uint32_t n)
     same_card(&d, &right);
 }
 
-/* "SCMD becomes 0 when DIN1 goes inactive", and "so does DIN1 going inactive for bit 0". */
-static void din1(uint32_t method)
+/* "SCMD becomes 0 when DIN1 goes inactive". */
+static void din1(void)
 {
     part = "DIN1";
     for (uint32_t active = 0; active <= 2; active++) {
-        card c = driving(method), d = c, right = c;
+        card c = driving(), d = c, right = c;
         if (active == 0) {
             right.plant[CARD_DIN1] = 0;
             right.plant[CARD_SCMD] = 0;
-            right.plant[CARD_DRIVE_CONTROL] &= ~(uint32_t)SWITCH_ON;
         }
         SAME(card_din1(&c, active), CARD_DONE);
         SAME(c.plant[CARD_DIN1] != 0, active != 0);
@@ -295,9 +237,9 @@ static void din1(uint32_t method)
 }
 
 /* "The host sets FrqAct, I-rms and OpTime freely in their widths." */
-static void measured(uint32_t method)
+static void measured(void)
 {
-    card c = driving(method), d = c, right = c;
+    card c = driving(), d = c, right = c;
 
     part = "FrqAct";
     SAME(card_frq_act(&c, (uint32_t)-5), CARD_DONE);
@@ -323,17 +265,18 @@ static void measured(uint32_t method)
 }
 
 /* "bit 1 parity fault told by the host. Either one at MODE 3 also raises flag 14." */
-static void parity_fault(uint32_t method)
+static void parity_fault(void)
 {
     part = "parity fault";
-    for (uint32_t mode = 1; mode <= 3; mode += method == BY_BITS ? 2 : 1) {
-        card c = driving(method), d, right;
-        at_mode(&c, mode);
+    for (uint32_t mode = 1; mode <= 3; mode++) {
+        card c = driving(), d, right;
+        c.plant[CARD_MODE] = mode;
         right = d = c;
         right.port.numbers[CARD_SIOERR] = 2;
         if (mode == 3) {
             right.plant[CARD_FLAGS] = 1u << 14;
-            halted(&right);
+            right.plant[CARD_SCMD] = 0;
+            righted(&right);
         }
         SAME(card_parity_fault(&c), CARD_DONE);
         same_card(&c, &right);
@@ -362,15 +305,16 @@ static void last_tenths(card c, uint32_t tenths)
     right.port.numbers[CARD_SUM] = 0;
     right.port.numbers[CARD_SIOERR] = 1;
     right.plant[CARD_FLAGS] = 1u << 14;
-    halted(&right);
+    right.plant[CARD_SCMD] = 0;
+    righted(&right);
     ticks(&c, &d, 1, CARD_DONE, &right);
 }
 
 /* "The host ticks 1 to 250 tenths. If SioTot is not 0 and the sum .. goes above it, a time-out happens and the sum restarts at 0. While SioTot is 0 the
  * sum is 0." */
-static void tick(uint32_t method)
+static void tick(void)
 {
-    card c = driving(method), d = c, right = c;
+    card c = driving(), d = c, right = c;
 
     part = "tick";
     ticks(&c, &d, 0, CARD_NO_SUCH_EVENT, &right);
@@ -378,13 +322,13 @@ static void tick(uint32_t method)
     ticks(&c, &d, UINT32_MAX, CARD_NO_SUCH_EVENT, &right);
     last_tenths(c, 6);
     part = "tick above SioTot at MODE 1";
-    at_mode(&c, 1);
+    c.plant[CARD_MODE] = 1;
     right = d = c;
     right.port.numbers[CARD_SUM] = 0;
     right.port.numbers[CARD_SIOERR] = 1;
     ticks(&c, &d, 250, CARD_DONE, &right);
     part = "tick while SioTot is 0";
-    c = driving(method);
+    c = driving();
     c.plant[CARD_SIO_TOT] = 0;
     right = d = c;
     right.port.numbers[CARD_SUM] = 0;
@@ -392,13 +336,13 @@ static void tick(uint32_t method)
 }
 
 /* "The start number becomes 50 (5 seconds)": a fresh card that runs at MODE 3 stops by itself once it was silent for longer, and not before. */
-static void silence(uint32_t method)
+static void silence(void)
 {
     card c = fresh(CARD_NFO);
 
-    c.plant[CARD_METHOD] = method;
+    c.plant[CARD_MODE] = 3;
+    c.plant[CARD_SCMD] = 129;
     c.plant[CARD_DIN1] = 1;
-    at_mode(&c, 3);
     last_tenths(c, 50);
 }
 
@@ -449,20 +393,14 @@ static void call(enum way way, uint32_t protocol, card *c, const uint8_t *bytes,
 static const size_t least[] = { 19, 256, 513 };
 static const size_t rooms[] = { 0, 18, 19, 255, 256, 512, 513, 600 };
 
-static void header_numbers(void)
+static void limits(void)
 {
-    part = "the header's numbers";
+    part = "limits";
     SAME(CARD_NFO_REPLY, least[CARD_NFO]);
     SAME(CARD_RTU_REPLY, least[CARD_RTU]);
     SAME(CARD_ASCII_REPLY, least[CARD_ASCII]);
     for (uint32_t protocol = 0; protocol < 9; protocol++)
         SAME(CARD_REPLY_LEAST(protocol), least[protocol < 3 ? protocol : CARD_NFO]);
-    SAME(CARD_BY_SCMD, BY_SCMD);
-    SAME(CARD_BY_BITS, BY_BITS);
-    SAME(CARD_BUS_CONTROL, BUS);
-    SAME(CARD_ENABLE, ENABLE);
-    SAME(CARD_SWITCH_ON, SWITCH_ON);
-    SAME(CARD_ACKNOWLEDGE, ACKNOWLEDGE);
 }
 
 /* A message to a fresh card, by each function and with buffers about the limits. 10 comes before all else, "with no byte used"; "A stream call uses bytes up to the
@@ -552,20 +490,15 @@ static void bytes_from_the_line(void)
 }
 
 /* ---- Inv St */
-/* A message to a card with nothing pending, by each function: what comes of it, and what it leaves. */
-static void served(uint32_t protocol, const card *c, const char *bytes, size_t n, uint32_t outcome, const char *reply, size_t len, const card *right)
-{
-    for (enum way way = 0; way < WAYS; way++) {
-        card d = *c, then = *right;
-        d.port.numbers[CARD_PROTOCOL] = then.port.numbers[CARD_PROTOCOL] = number_for(way, protocol);
-        call(way, protocol, &d, (const uint8_t *)bytes, n, least[protocol], outcome, n, reply, len, &then);
-    }
-}
-
-/* A question by which nothing changes. */
+/* A question to a card with nothing pending, by each function: what comes of it, and nothing changes. */
 static void asked(uint32_t protocol, const card *c, const char *bytes, size_t n, uint32_t outcome, const char *reply, size_t len)
 {
-    served(protocol, c, bytes, n, outcome, reply, len, c);
+    for (enum way way = 0; way < WAYS; way++) {
+        card d = *c, right;
+        d.port.numbers[CARD_PROTOCOL] = number_for(way, protocol);
+        right = d;
+        call(way, protocol, &d, (const uint8_t *)bytes, n, least[protocol], outcome, n, reply, len, &right);
+    }
 }
 
 /* The ENQUIRY of Inv St at an address, on NFO serial: the number is told, or it is not ours. */
@@ -606,14 +539,6 @@ static void statuses(void)
             c.plant[CARD_SCMD] = runs ? 129 : 0;
             status_told(&c, mode == 1 ? 24 : mode == 2 ? 33 + runs : 37 + runs);
         }
-    part = "Inv St, by bits";
-    c = fresh_by(CARD_NFO, BY_BITS);
-    status_told(&c, 24);
-    c.plant[CARD_DIN1] = 1;
-    at_mode(&c, 3);
-    status_told(&c, 38);
-    c.plant[CARD_DRIVE_CONTROL] = BUS | ENABLE;
-    status_told(&c, 37);
     part = "Inv St, a flag";
     for (uint32_t n = 0; n < 32; n++) {
         for (uint32_t other = n; other < 32; other++) {
@@ -626,43 +551,28 @@ static void statuses(void)
 }
 
 /* ---- Drive Status */
-/* The message of Modbus ASCII that these digits are, with `:`, LRC and CR LF around them, and its length. */
-static size_t message_of(char *out, const char *digits)
+/* The message of Modbus ASCII that these digits are, with `:`, LRC and CR LF around them. */
+static void message_of(char *out, const char *digits)
 {
     unsigned sum = 0, byte;
 
     for (const char *d = digits; sscanf(d, "%2X", &byte) == 1; d += 2)
         sum += byte;
-    return (size_t)sprintf(out, ":%s%02X\r\n", digits, -sum & 0xFF);
+    sprintf(out, ":%s%02X\r\n", digits, -sum & 0xFF);
 }
 
-/* The frame of Modbus RTU that these digits are: "for each byte exclusive-or it in, then eight times shift right by one and, if a 1 fell out, exclusive-or A001h". */
-static size_t frame_of(char *out, const char *digits)
-{
-    unsigned crc = 0xFFFF, byte;
-    size_t n = 0;
-
-    for (; sscanf(digits + 2 * n, "%2X", &byte) == 1; n++) {
-        out[n] = (char)byte;
-        crc ^= byte;
-        for (int k = 0; k < 8; k++)
-            crc = crc & 1 ? crc >> 1 ^ 0xA001 : crc >> 1;
-    }
-    out[n] = (char)crc;
-    out[n + 1] = (char)(crc >> 8);
-    return n + 2;
-}
-
-/* A message on Modbus RTU and ASCII, and the one that answers it, if one does, each by its digits, and what it leaves. */
+/* A message on Modbus ASCII, and the one that answers it, each by its digits, by each function, and what it leaves. */
 static void sent(const card *c, const char *request, uint32_t outcome, const char *answer, const card *right)
 {
     char bytes[40], reply[40];
-    size_t n = frame_of(bytes, request), len = *answer ? frame_of(reply, answer) : 0;
 
-    served(CARD_RTU, c, bytes, n, outcome, reply, len, right);
-    n = message_of(bytes, request);
-    len = *answer ? message_of(reply, answer) : 0;
-    served(CARD_ASCII, c, bytes, n, outcome, reply, len, right);
+    message_of(bytes, request);
+    message_of(reply, answer);
+    for (enum way way = 0; way < WAYS; way++) {
+        card d = *c, then = *right;
+        d.port.numbers[CARD_PROTOCOL] = then.port.numbers[CARD_PROTOCOL] = number_for(way, CARD_ASCII);
+        call(way, CARD_ASCII, &d, (const uint8_t *)bytes, strlen(bytes), CARD_ASCII_REPLY, outcome, strlen(bytes), reply, strlen(reply), &then);
+    }
 }
 
 /* Register 0258h tells the word that is stored, whatever it is, and changes nothing; a write of it is 3, and changes nothing. */
@@ -718,7 +628,7 @@ static void words_by_din1(void)
 /* A card at MODE 3 that stands, with DIN1 active and nothing pending; its stored word is not right. */
 static card standing(void)
 {
-    card c = driving(BY_SCMD);
+    card c = driving();
     c.plant[CARD_SCMD] = 0;
     c.plant[CARD_DRIVE_STATUS] = 0x1234;
     c.port.numbers[CARD_SUM] = 0;
@@ -772,204 +682,6 @@ static void drive_statuses(void)
     words_by_din1();
     words_by_reads();
     words_by_writes();
-}
-
-/* ---- control by bits */
-/* The other bits of Drive Control, and the steps by which the motor runs, each with what the one before it brought. */
-enum { OTHER_BITS = 0xFFFF & ~(BUS | ENABLE | SWITCH_ON | ACKNOWLEDGE), STEPS = 4 };
-static const uint32_t steps[STEPS] = { 0, BUS, BUS | ENABLE, BUS | ENABLE | SWITCH_ON };
-
-/* A write of Drive Control by document 02: its outcome, and what it leaves. "While a flag stands, only a write with bit 7 set and bits 0 and 3 clear goes through";
- * "Bit 3 may be written only if 14 was stored before and is written too, bit 0 only if 3 was stored before and is written too, and DIN1 is active". */
-static uint32_t controlled(card *c, uint32_t word)
-{
-    uint32_t *p = c->plant, before_and_too = p[CARD_DRIVE_CONTROL] & word;
-
-    if (p[CARD_FLAGS] && (word & (ACKNOWLEDGE | ENABLE | SWITCH_ON)) != ACKNOWLEDGE)
-        return CARD_FLAG_STANDS;
-    if (p[CARD_METHOD] != BY_BITS || (word & ENABLE && !(before_and_too & BUS)) || (word & SWITCH_ON && !(before_and_too & ENABLE && p[CARD_DIN1])))
-        return CARD_NOT_PERMITTED;
-    if (word & ACKNOWLEDGE)
-        p[CARD_FLAGS] &= p[CARD_CAUSES] | 1u << 14;
-    p[CARD_DRIVE_CONTROL] = word & ~(uint32_t)ACKNOWLEDGE;
-    p[CARD_MODE] = word & BUS ? 3 : 1;
-    righted(c);
-    return CARD_DONE;
-}
-
-/* A write, by the digits of its data unit, to us and to all: it is answered by its function, register and word or count, or by an exception. */
-static void put(const card *c, const char *unit, uint32_t outcome, const card *right)
-{
-    static const unsigned exception[] = { [CARD_NO_ROW] = 2, [CARD_NOT_ALLOWED] = 3, [CARD_FLAG_STANDS] = 4, [CARD_RUNNING] = 4, [CARD_NOT_PERMITTED] = 4 };
-    char request[32], answer[32];
-
-    snprintf(request, sizeof request, "01%s", unit);
-    if (outcome == CARD_DONE)
-        snprintf(answer, sizeof answer, "01%.10s", unit);
-    else
-        snprintf(answer, sizeof answer, "01%c%c%02X", unit[0] == '0' ? '8' : '9', unit[1], exception[outcome]);
-    sent(c, request, outcome, answer, right);
-    request[1] = '0';
-    sent(c, request, outcome, "", right);
-}
-
-/* A write of one word to a register, by 06 and by 16. */
-static void word_put(const card *c, unsigned place, unsigned word, uint32_t outcome, const card *right)
-{
-    char unit[24];
-
-    snprintf(unit, sizeof unit, "06%04X%04X", place, word);
-    put(c, unit, outcome, right);
-    snprintf(unit, sizeof unit, "10%04X000102%04X", place, word);
-    put(c, unit, outcome, right);
-}
-
-/* "the stored word AND the first, OR the second, then as a direct write" */
-static void masks_put(const card *c, unsigned first, unsigned second, uint32_t outcome, const card *right)
-{
-    char unit[32];
-
-    snprintf(unit, sizeof unit, "10071C000204%04X%04X", first & 0xFFFF, second & 0xFFFF);
-    put(c, unit, outcome, right);
-}
-
-/* A word, directly and by the mask: all of it by the second, or what goes by the first and what comes by the second. */
-static void word_written(const card *c, uint32_t word)
-{
-    uint32_t stored = c->plant[CARD_DRIVE_CONTROL];
-    card right = *c;
-    uint32_t outcome = controlled(&right, word);
-
-    word_put(c, 0x0254, word, outcome, &right);
-    masks_put(c, 0, word, outcome, &right);
-    masks_put(c, ~(stored & ~word), word & ~stored, outcome, &right);
-}
-
-/* A card that stores a step and another bit, with DIN1 active or not, and no flag, 5 whose cause stands or has ended, or 14. 0 where no card is so: a flag
- * has cleared bits 0 and 3, DIN1 bit 0, and method 1 stores nothing. */
-static int stored_card(card *c, uint32_t method, uint32_t step, uint32_t din1, uint32_t flag)
-{
-    uint32_t word = method == BY_BITS ? steps[step] | 0x0200 : 0;
-
-    *c = fresh(CARD_ASCII);
-    c->plant[CARD_METHOD] = method;
-    c->plant[CARD_DRIVE_CONTROL] = word;
-    c->plant[CARD_MODE] = word & BUS ? 3 : 1;
-    c->plant[CARD_DIN1] = din1;
-    c->plant[CARD_CAUSES] = flag == 1 ? 1u << 5 : 0;
-    c->plant[CARD_FLAGS] = flag == 0 ? 0 : flag == 3 ? 1u << 14 : 1u << 5;
-    righted(c);
-    return (!flag || !(word & (ENABLE | SWITCH_ON))) && (din1 || !(word & SWITCH_ON)) && (method == BY_BITS || step == 0);
-}
-
-/* Each word of the four bits, with none of the others and with all. */
-static void words_written(const card *c)
-{
-    part = "Drive Control, written";
-    for (uint32_t n = 0; n < 32; n++)
-        word_written(c, (n & 1 ? BUS : 0) | (n & 2 ? ENABLE : 0) | (n & 4 ? SWITCH_ON : 0) | (n & 8 ? ACKNOWLEDGE : 0) | (n & 16 ? OTHER_BITS : 0));
-}
-
-/* Drive Control tells the stored word, by either method; "2 for a read of the mask"; both are read and written whole. A broadcast read is 1. */
-static void words_told(const card *c)
-{
-    static const char *const masks[] = { "0103071C0002", "0104071C0002", "0103071C0001", "0103071D0001" }, *const all[] = { "000302540001", "0003071C0002" };
-    char answer[16];
-
-    part = "Drive Control, read";
-    snprintf(answer, sizeof answer, "010302%04X", (unsigned)c->plant[CARD_DRIVE_CONTROL]);
-    sent(c, "010302540001", CARD_DONE, answer, c);
-    answer[3] = '4';
-    sent(c, "010402540001", CARD_DONE, answer, c);
-    sent(c, "010302540002", CARD_NO_ROW, "018302", c);
-    for (size_t k = 0; k < sizeof masks / sizeof masks[0]; k++)
-        sent(c, masks[k], CARD_NO_ROW, masks[k][3] == '3' ? "018302" : "018402", c);
-    for (size_t k = 0; k < sizeof all / sizeof all[0]; k++)
-        sent(c, all[k], CARD_NOT_OURS, "", c);
-    word_put(c, 0x071C, 0x0080, CARD_NO_ROW, c);
-    word_put(c, 0x071D, 0x0080, CARD_NO_ROW, c);
-    put(c, "10025400020400800000", CARD_NO_ROW, c);
-}
-
-/* With method 2, MODE and SCMD are 7, after 4 and 5; an Init row, P-Nom, is 6 while bit 0 is stored, and a Run row, Accel, is not. */
-static void other_rows_written(const card *c)
-{
-    static const struct { unsigned place, word; int allowed; } theirs[] = {
-        { 0x0294, 0, 0 }, { 0x0294, 1, 1 }, { 0x0294, 2, 1 }, { 0x0294, 3, 1 }, { 0x0294, 4, 0 },
-        { 0x0298, 0, 1 }, { 0x0298, 1, 0 }, { 0x0298, 128, 0 }, { 0x0298, 129, 1 }, { 0x0298, 257, 1 },
-    };
-    uint32_t flag = c->plant[CARD_FLAGS] != 0, refusal = flag ? CARD_FLAG_STANDS : CARD_NOT_PERMITTED;
-    card right = *c;
-
-    part = "other rows, with method 2";
-    for (size_t k = 0; k < sizeof theirs / sizeof theirs[0]; k++)
-        word_put(c, theirs[k].place, theirs[k].word, theirs[k].allowed ? refusal : CARD_NOT_ALLOWED, c);
-    if (!flag)
-        right.plant[CARD_ACCEL] = 100;
-    word_put(c, 0x06DC, 100, flag ? refusal : CARD_DONE, &right);
-    right = *c;
-    if (!flag && !runs(c))
-        right.plant[CARD_P_NOM] = 200;
-    word_put(c, 0x06C0, 200, flag ? refusal : runs(c) ? CARD_RUNNING : CARD_DONE, &right);
-}
-
-/* DIN1 becomes inactive and active again: bit 0 goes and does not come back. */
-static void bits_by_din1(const card *c)
-{
-    card d = *c, right = *c;
-
-    part = "Drive Control, by DIN1";
-    right.plant[CARD_DIN1] = right.plant[CARD_SCMD] = 0;
-    right.plant[CARD_DRIVE_CONTROL] &= ~(uint32_t)SWITCH_ON;
-    righted(&right);
-    SAME(card_din1(&d, 0), CARD_DONE);
-    same_card(&d, &right);
-    right.plant[CARD_DIN1] = 1;
-    righted(&right);
-    SAME(card_din1(&d, 1), CARD_DONE);
-    same_card(&d, &right);
-}
-
-/* "The broadcast stop works with either method, under its old condition": 14 is the only flag. It changes no stored bit. */
-static void broadcast_stop(const card *c)
-{
-    static const char stop[] = "\x04\x7F\x02" "E00AD=0000\x03~";
-    uint32_t flags = c->plant[CARD_FLAGS], outcome = flags == 1u << 14 ? CARD_DONE : flags ? CARD_FLAG_STANDS : CARD_NOT_PERMITTED;
-    card d = *c, right;
-
-    part = "the broadcast stop";
-    d.port.numbers[CARD_SIOERR] = 3;
-    right = d;
-    if (outcome == CARD_DONE) {
-        right.port.numbers[CARD_SIOERR] = 0;
-        right.plant[CARD_FLAGS] = 0;
-        righted(&right);
-    }
-    served(CARD_NFO, &d, TEXT(stop), outcome, "", 0, &right);
-}
-
-/* Control by a method, in each card that can be. (With another number than 2, MODE is 1 here, so that SCMD 0 to all is 7 as well.) */
-static void control(uint32_t method)
-{
-    card c;
-
-    for (uint32_t step = 0; step < STEPS; step++)
-        for (uint32_t n = 0; n < 8; n++) {
-            if (!stored_card(&c, method, step, n & 1, n >> 1))
-                continue;
-            words_told(&c);
-            words_written(&c);
-            bits_by_din1(&c);
-            broadcast_stop(&c);
-            if (method == BY_BITS)
-                other_rows_written(&c);
-        }
-    c = fresh(CARD_ASCII);
-    c.plant[CARD_METHOD] = method;
-    for (uint32_t word = 1; word < 0x10000; word <<= 1) {
-        c.plant[CARD_DRIVE_CONTROL] = word;
-        words_told(&c);
-    }
 }
 
 /* ---- SiAdr kept from before */
@@ -1135,29 +847,19 @@ static void register_data(void)
     data_at(TEXT(""), 0, 0);
 }
 
-/* Restart, the host's events and control, by a number that stands in the state for the method: any but 2 counts as 1. */
-static void by_method(uint32_t method)
-{
-    restart(method);
-    for (uint32_t n = 0; n <= 33; n++)
-        fault(method, n);
-    fault(method, UINT32_MAX);
-    din1(method);
-    measured(method);
-    parity_fault(method);
-    tick(method);
-    silence(method);
-    control(method);
-}
-
 int main(void)
 {
-    static const uint32_t methods[] = { BY_SCMD, BY_BITS, 0, 3, UINT32_MAX };
-
     start();
-    for (size_t k = 0; k < sizeof methods / sizeof methods[0]; k++)
-        by_method(methods[k]);
-    header_numbers();
+    restart();
+    for (uint32_t n = 0; n <= 33; n++)
+        fault(n);
+    fault(UINT32_MAX);
+    din1();
+    measured();
+    parity_fault();
+    tick();
+    silence();
+    limits();
     bytes_from_the_line();
     statuses();
     drive_statuses();

@@ -14,13 +14,10 @@ const FRQ_ACT: usize = 27;
 const I_RMS: usize = 28;
 const OP_TIME: usize = 29;
 const DRIVE_STATUS: usize = 30;
-const DRIVE_CONTROL: usize = 31;
-const DIN1: usize = 33;
-const CAUSES: usize = 34;
-const FLAGS: usize = 35;
-const STATION: usize = 36;
-const METHOD: usize = 37;
-type Plant = [u32; 38];
+const DIN1: usize = 31;
+const CAUSES: usize = 32;
+const FLAGS: usize = 33;
+const STATION: usize = 34;
 
 /// The numbers of a port.
 const PROTOCOL: usize = 0;
@@ -39,48 +36,40 @@ struct Card {
     held: [u8; 512],
     len: usize,
     port: [u32; 3],
-    plant: Plant,
+    plant: [u32; 35],
     identity: Identity,
 }
 
 extern "C" {
-    fn card_start_in(held: &mut [u8; 512], len: &mut usize, port: &mut [u32; 3], plant: &mut Plant, identity: &mut Identity, protocol: u32, method: u32, given: &Identity);
-    fn card_restart_in(len: &mut usize, port: &mut [u32; 3], plant: &mut Plant);
-    fn card_raise_fault_in(plant: &mut Plant, n: u32) -> u32;
-    fn card_end_cause_in(plant: &mut Plant, n: u32) -> u32;
-    fn card_din1_in(plant: &mut Plant, active: u32) -> u32;
-    fn card_frq_act_in(plant: &mut Plant, word: u32) -> u32;
-    fn card_i_rms_in(plant: &mut Plant, word: u32) -> u32;
-    fn card_op_time_in(plant: &mut Plant, word: u32) -> u32;
-    fn card_parity_fault_in(port: &mut [u32; 3], plant: &mut Plant) -> u32;
-    fn card_tick_in(port: &mut [u32; 3], plant: &mut Plant, tenths: u32) -> u32;
-    fn card_receive_in(held: &mut [u8; 512], len: &mut usize, port: &mut [u32; 3], plant: &mut Plant, identity: &Identity, bytes: *const u8, n_bytes: usize, reply: *mut u8, n_reply: usize, told: &mut [usize; 2]) -> u32;
-    fn card_receive_nfo_in(held: &mut [u8; 512], len: &mut usize, port: &mut [u32; 3], plant: &mut Plant, bytes: *const u8, n_bytes: usize, reply: *mut u8, n_reply: usize, told: &mut [usize; 2]) -> u32;
-    fn card_receive_rtu_in(held: &mut [u8; 512], len: &mut usize, port: &mut [u32; 3], plant: &mut Plant, identity: &Identity, bytes: *const u8, n_bytes: usize, reply: *mut u8, n_reply: usize, told: &mut [usize; 2]) -> u32;
-    fn card_receive_ascii_in(held: &mut [u8; 512], len: &mut usize, port: &mut [u32; 3], plant: &mut Plant, identity: &Identity, bytes: *const u8, n_bytes: usize, reply: *mut u8, n_reply: usize, told: &mut [usize; 2]) -> u32;
+    fn card_start_in(held: &mut [u8; 512], len: &mut usize, port: &mut [u32; 3], plant: &mut [u32; 35], identity: &mut Identity, protocol: u32, given: &Identity);
+    fn card_restart_in(len: &mut usize, port: &mut [u32; 3], plant: &mut [u32; 35]);
+    fn card_raise_fault_in(plant: &mut [u32; 35], n: u32) -> u32;
+    fn card_end_cause_in(plant: &mut [u32; 35], n: u32) -> u32;
+    fn card_din1_in(plant: &mut [u32; 35], active: u32) -> u32;
+    fn card_frq_act_in(plant: &mut [u32; 35], word: u32) -> u32;
+    fn card_i_rms_in(plant: &mut [u32; 35], word: u32) -> u32;
+    fn card_op_time_in(plant: &mut [u32; 35], word: u32) -> u32;
+    fn card_parity_fault_in(port: &mut [u32; 3], plant: &mut [u32; 35]) -> u32;
+    fn card_tick_in(port: &mut [u32; 3], plant: &mut [u32; 35], tenths: u32) -> u32;
+    fn card_receive_in(held: &mut [u8; 512], len: &mut usize, port: &mut [u32; 3], plant: &mut [u32; 35], identity: &Identity, bytes: *const u8, n_bytes: usize, reply: *mut u8, n_reply: usize, told: &mut [usize; 2]) -> u32;
+    fn card_receive_nfo_in(held: &mut [u8; 512], len: &mut usize, port: &mut [u32; 3], plant: &mut [u32; 35], bytes: *const u8, n_bytes: usize, reply: *mut u8, n_reply: usize, told: &mut [usize; 2]) -> u32;
+    fn card_receive_rtu_in(held: &mut [u8; 512], len: &mut usize, port: &mut [u32; 3], plant: &mut [u32; 35], identity: &Identity, bytes: *const u8, n_bytes: usize, reply: *mut u8, n_reply: usize, told: &mut [usize; 2]) -> u32;
+    fn card_receive_ascii_in(held: &mut [u8; 512], len: &mut usize, port: &mut [u32; 3], plant: &mut [u32; 35], identity: &Identity, bytes: *const u8, n_bytes: usize, reply: *mut u8, n_reply: usize, told: &mut [usize; 2]) -> u32;
     fn card_register_data(frame: *const u8, n_frame: usize, place: &mut [usize; 2]);
 }
 
-/// What a `start` chooses beside the protocol: the method, 1 or 2, and who the card is.
-#[derive(Clone, Copy)]
-struct Chosen {
-    method: u32,
-    identity: Identity,
-}
-const DEFAULT: Chosen = Chosen { method: 1, identity: SPACES };
-
-/// The card in the host's memory, what it was started with, how many calls were made on it, and on which protocols.
+/// The card in the host's memory, who it was started as, how many calls were made on it, and on which protocols.
 struct Host {
     card: Card,
-    chosen: Chosen,
+    given: Identity,
     calls: usize,
     protocols: [usize; 3],
 }
 
 /// Memory that holds 5Ah throughout, with a fresh card put over it: what was there before does not count.
-fn fresh(protocol: u32, chosen: &Chosen) -> Card {
-    let mut card = Card { held: [0x5A; 512], len: 0x5A5A, port: [0x5A5A5A5A; 3], plant: [0x5A5A5A5A; 38], identity: [0x5A; 41] };
-    unsafe { card_start_in(&mut card.held, &mut card.len, &mut card.port, &mut card.plant, &mut card.identity, protocol, chosen.method, &chosen.identity) };
+fn fresh(protocol: u32, given: &Identity) -> Card {
+    let mut card = Card { held: [0x5A; 512], len: 0x5A5A, port: [0x5A5A5A5A; 3], plant: [0x5A5A5A5A; 35], identity: [0x5A; 41] };
+    unsafe { card_start_in(&mut card.held, &mut card.len, &mut card.port, &mut card.plant, &mut card.identity, protocol, given) };
     card
 }
 
@@ -93,20 +82,6 @@ fn unhex(text: &str) -> Vec<u8> {
 fn identity_of(text: &str) -> Option<Identity> {
     let capital = |b: u8| matches!(b, b'0'..=b'9' | b'A'..=b'F');
     if text.len() == 2 * 41 && text.bytes().all(capital) { unhex(text).try_into().ok() } else { None }
-}
-
-/// What the words behind the protocol choose, `method M` and `identity HEX`, each at most once and in this order; or none where they are others.
-fn chosen(words: &[&str]) -> Option<Chosen> {
-    let (method, rest) = match words {
-        ["method", "1", rest @ ..] => (1, rest),
-        ["method", "2", rest @ ..] => (2, rest),
-        _ => (DEFAULT.method, words),
-    };
-    match rest {
-        [] => Some(Chosen { method, ..DEFAULT }),
-        ["identity", who] => Some(Chosen { method, identity: identity_of(who)? }),
-        _ => None,
-    }
 }
 
 fn hex(bytes: &[u8]) -> String {
@@ -131,8 +106,7 @@ impl Host {
         };
         assert!(told[1] <= LEAST[protocol], "no reply is longer than the least reply buffer");
         assert!(outcome != 10 || room < LEAST[protocol], "10 is a buffer under the least");
-        assert!(c.identity == self.chosen.identity, "no message changes the identity");
-        assert!(c.plant[METHOD] == self.chosen.method, "no message changes the method");
+        assert!(c.identity == self.given, "no message changes the identity");
         self.calls += 1;
         self.protocols[protocol] += 1;
         (outcome, told[0], told[1])
@@ -171,10 +145,10 @@ impl Host {
     }
 
     /// `start P`, by the protocol's word, or none where it is no protocol's.
-    fn start(&mut self, protocol: &str, chosen: Chosen) -> Option<String> {
+    fn start(&mut self, protocol: &str, given: Identity) -> Option<String> {
         let number = ["nfo", "rtu", "ascii"].iter().position(|p| *p == protocol)?;
-        self.card = fresh(number as u32, &chosen);
-        self.chosen = chosen;
+        self.card = fresh(number as u32, &given);
+        self.given = given;
         self.calls += 1;
         Some("0".into())
     }
@@ -189,8 +163,7 @@ impl Host {
         columns.extend([plant[FRQ_ACT] as i16 as i64, plant[I_RMS] as i32 as i64]);
         columns.extend([plant[OP_TIME], plant[DIN1], plant[CAUSES], plant[FLAGS], port[SUM], plant[STATION]].map(i64::from));
         let numbers: Vec<String> = columns.iter().map(i64::to_string).collect();
-        let pending = hex(&self.card.held[..self.card.len]);
-        format!("{} {} {} {} {}", numbers.join(" "), pending, plant[DRIVE_STATUS], plant[DRIVE_CONTROL], plant[METHOD])
+        format!("{} {} {}", numbers.join(" "), hex(&self.card.held[..self.card.len]), plant[DRIVE_STATUS])
     }
 
     fn event(&mut self, what: &str, word: u32) -> u32 {
@@ -214,7 +187,8 @@ impl Host {
     fn answers(&mut self, line: &str) -> Option<Vec<String>> {
         let words: Vec<&str> = line.split(' ').collect();
         let answer = match words[..] {
-            ["start", p, ref rest @ ..] => self.start(p, chosen(rest)?)?,
+            ["start", p] => self.start(p, SPACES)?,
+            ["start", p, "identity", who] => self.start(p, identity_of(who)?)?,
             ["restart"] => {
                 let c = &mut self.card;
                 unsafe { card_restart_in(&mut c.len, &mut c.port, &mut c.plant) };
@@ -260,10 +234,10 @@ fn agree(host: &mut Host, script: &str, answers: &str) -> Result<usize, String> 
 pub extern "C" fn main(_count: i32, _words: *const *const u8) -> i32 {
     let files: Vec<String> = std::env::args().skip(1).collect();
     let read = |path: &str| std::fs::read_to_string(path).expect(path);
-    let mut host = Host { card: fresh(0, &DEFAULT), chosen: DEFAULT, calls: 0, protocols: [0; 3] };
+    let mut host = Host { card: fresh(0, &SPACES), given: SPACES, calls: 0, protocols: [0; 3] };
     let mut agreed = 0;
     for pair in files.chunks(2) {
-        host.start("nfo", DEFAULT).expect("nfo");
+        host.start("nfo", SPACES).expect("nfo");
         match agree(&mut host, &read(&pair[0]), &read(&pair[1])) {
             Ok(n) => agreed += n,
             Err(difference) => {

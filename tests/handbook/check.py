@@ -93,25 +93,14 @@ def status():
     return differs("README.md, Status", told, sorted(numbers))
 
 
-def bits(row, enum, numbers):
-    """These bits of a row and no other, each with its mask, in README's table and in the header."""
-    right = [(n, "%04Xh" % (1 << n)) for n in map(int, numbers)]
-    told = [(int(line[0]), line[1]) for line in cells("README.md", row) if line[0].isdigit()]
-    listed = re.search(r"\nenum %s \{\n(.*?)\n\};" % enum, text("include/linecard.h"), re.S).group(1)
-    masks = [mask + "h" for mask in re.findall(r" = 0x([0-9A-F]{4})\b", listed)]
-    faults = differs("README.md, " + row, told, right) + differs("linecard.h, " + enum, masks, [mask for _, mask in right])
-    return faults if right else ["%s: no bits are defined" % row]
-
-
 def drive_status():
-    """The bits of the definition's word."""
+    """The bits of the definition's word, each with its mask, in README's table and in the header."""
     word = re.search(r"\nstatusWord \w =\n(.*?)\n\n", text("crates/drive/specs/Status.antt"), re.S).group(1)
-    return bits("Drive Status", "card_status", re.findall(r"\(bit (\d+) ", word))
-
-
-def drive_control():
-    """The bits that the definition has a name for."""
-    return bits("Drive Control", "card_control", re.findall(r"^(?:Bus|Enable|SwitchOn|Acknowledge) = (\d+)$", text("crates/drive/specs/Bits.antt"), re.M))
+    right = [(n, "%04Xh" % (1 << n)) for n in map(int, re.findall(r"\(bit (\d+) ", word))]
+    told = [(int(row[0]), row[1]) for row in cells("README.md", "Drive Status")]
+    listed = re.search(r"\nenum card_status \{\n(.*?)\n\};", text("include/linecard.h"), re.S).group(1)
+    masks = [mask + "h" for mask in re.findall(r" = 0x([0-9A-F]{4})\b", listed)]
+    return differs("README.md, Drive Status", told, right) + differs("linecard.h, card_status", masks, [mask for _, mask in right])
 
 
 def identity():
@@ -261,7 +250,7 @@ def sessions():
     return faults + ["%s shows no session" % page for page in ("README.md", "docs/BENCH.md") if page not in seen]
 
 
-CHECKS = [registers, rooms, times, outcomes, status, drive_status, drive_control, identity, promises, picture_of_rooms, picture_of_the_morning, links, sessions]
+CHECKS = [registers, rooms, times, outcomes, status, drive_status, identity, promises, picture_of_rooms, picture_of_the_morning, links, sessions]
 
 
 def main():

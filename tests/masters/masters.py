@@ -13,7 +13,6 @@ import sys
 import tempfile
 import time
 from concurrent.futures import ThreadPoolExecutor
-from contextlib import ExitStack
 
 import steps
 from port import PATIENCE, Port
@@ -26,8 +25,6 @@ SETTINGS = {"rtu": ["raw", "-echo", "min", "255", "time", "1"], "ascii": ["raw",
 SILENCE = 1.0
 # longer than SioTot is from the start, 5 seconds
 LEFT_ALONE = 6
-# a card that is steered by bits, with DIN1 active
-BY_BITS = ("method", "2", "din1")
 
 
 class Mbpoll:
@@ -165,11 +162,11 @@ class PymodbusIdentity(Pymodbus):
         return sent
 
 
-def play(program, protocol, name, master_on, letters=bytes, script=steps.steps, words=()):
+def play(program, protocol, name, master_on, letters=bytes, script=steps.steps):
     """Plays the steps by a master, and holds each answer, and at the end each line printed, to the documents. Whatever letters come, ours are capitals."""
     framed = FRAMED[protocol]
     asked, expected = 0, []
-    with Port(program, protocol, SETTINGS[protocol], words=words) as port:
+    with Port(program, protocol, SETTINGS[protocol]) as port:
         master = master_on(port.device)
         for step in script(lambda body: letters(framed(body))):
             if isinstance(step, Put):
@@ -207,12 +204,9 @@ def same_lines(name, printed, expected):
     assert len(printed) == len(expected), "%s: %d lines, and not %d" % (name, len(printed), len(expected))
 
 
-MBPOLL_MISSING = "mbpoll is not on this machine and could not be installed"
-
-
 def libmodbus_rtu(program):
     if not shutil.which("mbpoll"):
-        return MBPOLL_MISSING
+        return "mbpoll is not on this machine and could not be installed"
     play(program, "rtu", "libmodbus on RTU", Mbpoll)
 
 
@@ -226,58 +220,45 @@ def pymodbus_missing():
         return "pymodbus 3.0 with pyserial is not on this machine and could not be installed (%s)" % reason
 
 
-def play_pymodbus(program, protocol, name, master=Pymodbus, letters=bytes, **how):
-    """Plays by pymodbus, or says why it cannot be had."""
+def pymodbus_rtu(program):
     if pymodbus_missing():
         return pymodbus_missing()
-    from pymodbus.framer.ascii_framer import ModbusAsciiFramer
     from pymodbus.framer.rtu_framer import ModbusRtuFramer
 
-    framer = {"rtu": ModbusRtuFramer, "ascii": ModbusAsciiFramer}[protocol]
-    play(program, protocol, "pymodbus on " + name, lambda device: master(device, framer, FRAMED[protocol], letters), letters, **how)
-
-
-def in_letters(program, name, **how):
-    """On ASCII, in capitals, small and mixed letters."""
-    for words, letters in LETTERS.items():
-        reason = play_pymodbus(program, "ascii", name % words, letters=letters, **how)
-    return reason
-
-
-def pymodbus_rtu(program):
-    return play_pymodbus(program, "rtu", "RTU")
+    play(program, "rtu", "pymodbus on RTU", lambda device: Pymodbus(device, ModbusRtuFramer, steps.rtu))
 
 
 def pymodbus_ascii(program):
-    return in_letters(program, "ASCII in %s")
+    if pymodbus_missing():
+        return pymodbus_missing()
+    from pymodbus.framer.ascii_framer import ModbusAsciiFramer
+
+    for name, letters in LETTERS.items():
+        play(program, "ascii", "pymodbus on ASCII in " + name, lambda device: Pymodbus(device, ModbusAsciiFramer, steps.ascii, letters), letters)
 
 
 def identity_rtu(program):
-    return play_pymodbus(program, "rtu", "RTU, who are you", master=PymodbusIdentity, script=steps.identity)
+    if pymodbus_missing():
+        return pymodbus_missing()
+    from pymodbus.framer.rtu_framer import ModbusRtuFramer
+
+    play(program, "rtu", "pymodbus on RTU, who are you", lambda device: PymodbusIdentity(device, ModbusRtuFramer, steps.rtu), script=steps.identity)
 
 
 def identity_ascii(program):
-    return in_letters(program, "ASCII in %s, who are you", master=PymodbusIdentity, script=steps.identity)
+    if pymodbus_missing():
+        return pymodbus_missing()
+    from pymodbus.framer.ascii_framer import ModbusAsciiFramer
 
-
-def by_bits_rtu(program):
-    return play_pymodbus(program, "rtu", "RTU, by bits", script=steps.by_bits, words=BY_BITS)
-
-
-def by_bits_ascii(program):
-    return play_pymodbus(program, "ascii", "ASCII, by bits", script=steps.by_bits, words=BY_BITS)
-
-
-def by_bits_mbpoll(program):
-    if not shutil.which("mbpoll"):
-        return MBPOLL_MISSING
-    play(program, "rtu", "libmodbus on RTU, by bits", Mbpoll, script=steps.by_bits, words=BY_BITS)
+    for name, letters in LETTERS.items():
+        who = "pymodbus on ASCII in %s, who are you" % name
+        play(program, "ascii", who, lambda device: PymodbusIdentity(device, ModbusAsciiFramer, steps.ascii, letters), letters, steps.identity)
 
 
 def identity_mbpoll(program):
     """The serial number by libmodbus, which reads a reply to 17 as the standard has it: an id, a run indicator, and the rest. (43 it cannot ask.)"""
     if not shutil.which("mbpoll"):
-        return MBPOLL_MISSING
+        return "mbpoll is not on this machine and could not be installed"
     report = steps.Report()
     with Port(program, "rtu", SETTINGS["rtu"]) as port:
         words = ["mbpoll", "-v", "-m", "rtu", "-a", "1", "-b", "9600", "-P", "none", "-o", "10", "-u", port.device]
@@ -292,12 +273,12 @@ def identity_mbpoll(program):
 
 
 def left_alone(program):
-    """Masters that fall silent at MODE 3, at the same time: on a fresh card, after one wrote SioTot 0, and on a card that is steered by bits."""
+    """Two masters that fall silent at MODE 3, at the same time: one on a fresh card, the other after it wrote SioTot 0."""
     if not shutil.which("mbpoll"):
-        return MBPOLL_MISSING
-    dead = [("a dead master", (), steps.left_alone()), ("a dead master, SioTot 0", (), steps.left_alone_with_0()), ("a dead master, by bits", BY_BITS, steps.left_alone_by_bits())]
-    with ExitStack() as ports:
-        plays = [(name, ports.enter_context(Port(program, "rtu", SETTINGS["rtu"], words=words)), asked) for name, words, asked in dead]
+        return "mbpoll is not on this machine and could not be installed"
+    framed = FRAMED["rtu"]
+    with Port(program, "rtu", SETTINGS["rtu"]) as fresh, Port(program, "rtu", SETTINGS["rtu"]) as off:
+        plays = [("a dead master", fresh, steps.left_alone()), ("a dead master, SioTot 0", off, steps.left_alone_with_0())]
         for name, port, (before, _) in plays:
             for step in before:
                 ask(name, Mbpoll(port.device), step)
@@ -306,8 +287,8 @@ def left_alone(program):
             for step in after:
                 ask(name, Mbpoll(port.device), step)
         for name, port, (before, after) in plays:
-            same_lines(name, port.lines(), [line_of(FRAMED["rtu"], step) for step in before + after])
-    print("masters: a card at MODE 3, by SCMD or by bits, left alone for %d s, tells 14 and stands; with SioTot 0 it does not" % LEFT_ALONE)
+            same_lines(name, port.lines(), [line_of(framed, step) for step in before + after])
+    print("masters: a card at MODE 3, left alone for %d s, tells 14 and stands; with SioTot 0 it does not" % LEFT_ALONE)
 
 
 def two_scraps(program):
@@ -469,19 +450,6 @@ def nfo_left_alone(program):
     print("masters: NFO serial: a card at MODE 3 tells 14 after %d s of silence, and not where it is asked every 3 s" % LEFT_ALONE)
 
 
-def nfo_started(program):
-    """What the words behind the device choose: DIN1 active from the start, so that SCMD runs the motor; and the method by which MODE and SCMD are not written."""
-    mode_3, run, stop_all = select("E0029", 3), select("E00AD", 129), select("E00AD", 0, 95)
-    runs = [(mode_3, ACK, [0]), (run, ACK, [0]), (STATUS, reply("E00E9", 38), [0])]
-    stands = [(mode_3, ACK, [0]), (run, NAK, [7]), (STATUS, reply("E00E9", 37), [0])]
-    by_bits = [(mode_3, NAK, [7]), (run, NAK, [7]), (stop_all, b"", [7]), (select("E0254", 0x4000), NAK, [2]), (STATUS, reply("E00E9", 24), [0])]
-    cards = [("din1", runs), ("method 1 din1", runs), ("method 1", stands), ("method 2", by_bits), ("method 2 din1", by_bits)]
-    for words, exchanges in cards:
-        with Port(program, "nfo", SETTINGS["nfo"], words=words.split()) as port:
-            timed(port, "NFO serial, " + words, [(0, *exchange) for exchange in exchanges], time.sleep)
-    print("masters: NFO serial: %d cards are started as their words say" % len(cards))
-
-
 def timed(port, name, exchanges, wait):
     """Exchanges of NFO serial, each after a time."""
     expected = []
@@ -562,15 +530,9 @@ def line_texts(right, outcomes):
     return texts
 
 
-# behind the device stand `method M` and `din1`, each at most once, in this order; M is 1 or 2
-WRONG_WORDS = ("method", "method 0", "method 3", "method 21", "method two", "METHOD 2", "2", "din", "DIN1", "din1 1", "din1 din1", "din1 method 2", "method 2 method 2",
-               "method din1", "method 2 2", "method 2 din1 din1", "method 3 din1", "method 2 din1 9600", "din1din1din1", "methodmethod 2", "method 2222222222",
-               "method 2 din1din1din1")
-
-
 def wrong_arguments(program):
     """Each is told in one line on standard error, nothing is printed, and what the device holds stays."""
-    usage = "line: usage: line PROTOCOL DEVICE [method M] [din1], PROTOCOL is nfo, rtu or ascii, M is 1 or 2\n"
+    usage = "line: usage: line PROTOCOL DEVICE, PROTOCOL is nfo, rtu or ascii\n"
     with tempfile.TemporaryDirectory() as folder:
         device = os.path.join(folder, "device")
         with open(device, "wb") as held:
@@ -580,8 +542,6 @@ def wrong_arguments(program):
             ([], usage),
             (["nfo"], usage),
             (["nfo", device, "9600"], usage),
-            (["nfo", device, ""], usage),
-            *[(["rtu", device, *words.split()], usage) for words in WRONG_WORDS],
             (["tcp", device], usage),
             (["NFO", device], usage),
             (["", device], usage),
@@ -603,10 +563,6 @@ def out_of_time(number, frame):
     sys.exit("masters: out of time")
 
 
-# those that mostly wait
-BESIDE = (left_alone, nfo_left_alone, clock_of_our_own, identity_rtu, identity_ascii, identity_mbpoll, by_bits_rtu, by_bits_ascii, by_bits_mbpoll, nfo_started)
-
-
 def main():
     signal.signal(signal.SIGTERM, out_of_time)
     program = sys.argv[1]
@@ -614,8 +570,9 @@ def main():
     if not shutil.which("socat"):
         print("masters: skipped: socat is not on this machine and could not be installed")
         return
+    # those that mostly wait do so beside the others
     with ThreadPoolExecutor() as beside:
-        waiting = [(test, beside.submit(test, program)) for test in BESIDE]
+        waiting = [(test, beside.submit(test, program)) for test in (left_alone, nfo_left_alone, clock_of_our_own, identity_rtu, identity_ascii, identity_mbpoll)]
         for test in (nfo_serial, libmodbus_rtu, pymodbus_rtu, pymodbus_ascii, two_scraps):
             told(test, test(program))
         for test, ended in waiting:

@@ -18,9 +18,9 @@ def until(what, test):
 
 
 class Port:
-    """`line PROTOCOL` on the card's end, with the words behind it, set up by `stty SETTINGS`, in the environment given; `device` is the master's end."""
+    """`line PROTOCOL` on the card's end, set up by `stty SETTINGS`, in the environment given; `device` is the master's end."""
 
-    def __init__(self, program, protocol, settings, env=None, words=()):
+    def __init__(self, program, protocol, settings, env=None):
         self.folder = tempfile.mkdtemp()
         self.device = os.path.join(self.folder, "master")
         self.card = os.path.join(self.folder, "card")
@@ -33,7 +33,7 @@ class Port:
             until("socat", lambda: os.path.exists(self.device) and os.path.exists(self.card))
             subprocess.run(["stty", "-F", self.card, *settings], check=True)
             with open(self.printed, "wb") as lines:
-                self.line = self.start([program, "line", protocol, self.card, *words], stdout=lines, env=env)
+                self.line = self.start([program, "line", protocol, self.card], stdout=lines, env=env)
             until("line", self.is_open)
             self.end = os.open(self.device, os.O_RDWR | os.O_NOCTTY)
         except BaseException:

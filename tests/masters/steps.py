@@ -4,7 +4,7 @@ import random
 READ, INPUT, ONE, MANY, COILS, REPORT, IDENTIFY = 3, 4, 6, 16, 1, 17, 43
 
 # document 01's outcomes, and the exception of each
-EXCEPTION = {2: 2, 3: 2, 4: 3, 5: 4, 6: 4, 7: 4, 8: 3, 9: 1}
+EXCEPTION = {2: 2, 3: 2, 4: 3, 5: 4, 7: 4, 8: 3, 9: 1}
 
 # who `line` is, as the README has it; and the objects 00h to 06h by document 02
 REVISION, MODEL, SERIAL_NUMBER = b"Revision 02.03 PC", b"LineOnPC", b"0000000000000001"
@@ -22,7 +22,6 @@ R_FIX1, SI_BAUD, SI_ADR, SIO_TOT, MB_ADR = register(313), register(315), registe
 SPD_NUM, SPD_DEN = register(320), register(321)
 MODE, SCMD, INV_ST_ACK, INV_ST = register(34), register(35), register(38), 0x02A5
 SIO_ERR, FRQ_ACT, I_RMS, OP_TIME, DRIVE_STATUS = register(323), register(125), register(120), register(39), register(19)
-DRIVE_CONTROL, MASK = register(18), register(324)
 
 
 class Step:
@@ -118,11 +117,6 @@ def refused(outcome, function, register, asked):
     return Step(function, register, asked, outcome=outcome)
 
 
-def to_all(framed, what, step, line):
-    """A request to all cards, which none answers."""
-    return Put(what, framed(b"\0" + step.request()), line)
-
-
 def crc(body):
     """ "start FFFFh; for each byte exclusive-or it in, then eight times shift right by one and, if a 1 fell out, exclusive-or A001h" """
     value = 0xFFFF
@@ -163,7 +157,7 @@ def spoilt(framed):
         reads(READ, ACCEL, [100]),
         Put("a write to station 2", framed(write_accel(2, 200)), line="1 -"),
         reads(READ, ACCEL, [100]),
-        to_all(framed, "a broadcast read", reads(READ, INV_ST_ACK, [24]), "1 -"),
+        Put("a broadcast read", framed(bytes([0, READ]) + INV_ST_ACK.to_bytes(2, "big") + b"\0\1"), line="1 -"),
         Put("a broadcast write", framed(write_accel(0, 75)), line="0 -"),
         reads(READ, ACCEL, [75]),
     ]
@@ -210,95 +204,6 @@ def left_alone_with_0():
     return before, after
 
 
-def told(control, status, number):
-    """What a card tells of itself: Drive Control, Drive Status and Inv St."""
-    return [reads(READ, DRIVE_CONTROL, [control]), reads(INPUT, DRIVE_STATUS, [status]), reads(READ, INV_ST, [number])]
-
-
-def out_of_turn(*words):
-    return [refused(7, ONE, DRIVE_CONTROL, [word]) for word in words]
-
-
-def by_bits(framed):
-    """A card with method 2 and DIN1 active is steered: 14 bus control, 3 enable, 0 switch on, each in its turn; 7 acknowledge, which is never stored."""
-    return [
-        # however slow this master is, it is not taken for dead
-        writes(ONE, SIO_TOT, 0),
-        *told(0x0000, 0x0000, 24),
-        *out_of_turn(0x4008, 0x4009, 0x4001, 0x0008, 0x0001),
-        writes(ONE, DRIVE_CONTROL, 0x4000),
-        *told(0x4000, 0x0201, 37),
-        reads(READ, MODE, [3]),
-        *out_of_turn(0x4009, 0x4001, 0x0008),
-        writes(MANY, DRIVE_CONTROL, 0x4008),
-        *told(0x4008, 0x0205, 37),
-        *out_of_turn(0x4001, 0x0009, 0x0008),
-        writes(ONE, DRIVE_CONTROL, 0x4009),
-        *told(0x4009, 0x0207, 38),
-        # an Init row, running; and a Run row
-        refused(6, ONE, P_NOM, [200]),
-        writes(ONE, ACCEL, 100),
-        *the_other_method(),
-        writes(ONE, DRIVE_CONTROL, 0x4088),  # which acknowledges, stops, and stores no bit 7
-        *told(0x4008, 0x0205, 37),
-        *by_masks(),
-        to_all(framed, "control to all", writes(ONE, DRIVE_CONTROL, 0x4000), "0 -"),
-        to_all(framed, "a step out of turn to all", writes(MANY, MASK, 0xFFFF, 0x0001), "7 -"),
-        to_all(framed, "a read of the mask to all", reads(READ, MASK, [0, 0]), "1 -"),
-        *told(0x4000, 0x0201, 37),
-        writes(MANY, DRIVE_CONTROL, 0x3F00),  # the other bits are stored, and control is left
-        *told(0x3F00, 0x0000, 24),
-        reads(READ, MODE, [1]),
-    ]
-
-
-def the_other_method():
-    """MODE and SCMD of a card that is steered by bits are read as ever, and written by nobody; what is not allowed is told first."""
-    return [refused(7, ONE, MODE, [1]), refused(7, ONE, MODE, [3]), refused(4, ONE, MODE, [4]), refused(7, ONE, SCMD, [0]), refused(7, ONE, SCMD, [129]),
-            refused(4, ONE, SCMD, [1]), reads(READ, MODE, [3]), reads(READ, SCMD, [0])]
-
-
-def by_masks():
-    """From 4008h: the AND mask, then the OR mask, by 16. Both are written together, and neither is read."""
-    return [
-        refused(7, MANY, MASK, [0xFFF7, 0x0001]),  # 4001h
-        writes(MANY, MASK, 0xFFF7, 0x0009),  # 3 goes and comes back: 4009h
-        *told(0x4009, 0x0207, 38),
-        writes(MANY, MASK, 0xBFFF, 0x4000),  # so does 14
-        *told(0x4009, 0x0207, 38),
-        refused(7, MANY, MASK, [0xBFFF, 0x0000]),  # 0009h
-        writes(MANY, MASK, 0x0000, 0x0080),
-        *told(0x0000, 0x0000, 24),
-        refused(7, MANY, MASK, [0xFFFF, 0x4008]),
-        refused(2, READ, MASK, 2),
-        refused(2, INPUT, MASK, 2),
-        refused(2, READ, MASK, 1),
-        refused(2, ONE, MASK, [0x4000]),
-        refused(2, READ, DRIVE_CONTROL, 2),
-        refused(2, MANY, DRIVE_CONTROL, [0x4000, 0]),
-    ]
-
-
-def left_alone_by_bits():
-    """A master that steers by bits and is silent for longer than SioTot: bits 0 and 3 are gone, 14 stands, and bit 7 does not clear it."""
-    before = [writes(ONE, DRIVE_CONTROL, word) for word in (0x4000, 0x4008, 0x4009)] + told(0x4009, 0x0207, 38)
-    after = [
-        *told(0x4000, 0x0208, 14),
-        refused(5, ONE, DRIVE_CONTROL, [0x4008]),
-        refused(5, ONE, DRIVE_CONTROL, [0x4088]),
-        refused(5, MANY, MASK, [0xFFFF, 0]),
-        writes(ONE, DRIVE_CONTROL, 0x5080),
-        *told(0x5000, 0x0208, 14),
-        reads(READ, SIO_ERR, [1]),
-        *told(0x5000, 0x0201, 37),
-        *out_of_turn(0x5009),
-        writes(ONE, DRIVE_CONTROL, 0x5008),
-        writes(ONE, DRIVE_CONTROL, 0x5009),
-        *told(0x5009, 0x0207, 38),
-    ]
-    return before, after
-
-
 def steps(framed):
     """Document 01's column Start, what may be written, what may not, and why; `framed` makes a message of an address and a data unit."""
     return [
@@ -310,7 +215,7 @@ def steps(framed):
         reads(INPUT, MB_ADR, [1]),
         reads(READ, FRQ_ACT, [0]),
         reads(INPUT, SIO_ERR, [0]),
-        # `line` has no terminal, and no word says that DIN1 is active: bit 6
+        # `line` has no terminal, so DIN1 is inactive: bit 6
         reads(READ, DRIVE_STATUS, [0x0040]),
         reads(INPUT, DRIVE_STATUS, [0x0040]),
         # however slow this master is, it is not taken for dead
@@ -348,14 +253,6 @@ def steps(framed):
         refused(2, READ, INV_ST_ACK, 2),
         refused(2, ONE, SPD_DEN, [1]),
         refused(2, READ, DRIVE_STATUS, 2),
-        # it is steered by MODE and SCMD: the bits may not be written, and none is stored
-        reads(READ, DRIVE_CONTROL, [0]),
-        refused(7, ONE, DRIVE_CONTROL, [0x4000]),
-        refused(7, MANY, DRIVE_CONTROL, [0x0000]),
-        refused(7, MANY, MASK, [0xFFFF, 0x4000]),
-        reads(INPUT, DRIVE_CONTROL, [0]),
-        refused(2, READ, MASK, 2),
-        refused(2, ONE, MASK, [0x4000]),
         # read-only
         refused(3, ONE, FRQ_ACT, [5]),
         refused(3, MANY, OP_TIME, [1, 0]),

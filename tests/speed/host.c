@@ -39,7 +39,7 @@ int main(int argc, char **argv)
     if (p == 3) return 2;
     size_t messages = read_lines(), total = messages ? end_of[messages - 1] : 0;
     long rounds = strtol(argv[2], NULL, 10);
-    card_start(&c, p, CARD_BY_SCMD, identity);
+    card_start(&c, p, identity);
     for (long r = 0; r < rounds; r++) {
         size_t piece = 0;
         for (size_t at = 0, end = 0; at < total; at = end) {

@@ -9,21 +9,18 @@ sys.path.append(os.path.dirname(os.path.dirname(os.path.abspath(__file__))))
 from bad_frames.make import ascii_message, crc
 
 EXCEPTION = {2: 2, 3: 2, 4: 3, 5: 4, 6: 4, 7: 4}
-# ADI 18, 19 and 324 and their registers are no E numbers; the registers beside theirs, and the numbers themselves, are no row's, nor is one of the mask's two alone
-NO_E = [0x0012, 0x0013, 0x0144, 0x0254, 0x0258, 0x071C]
-NO_REGISTER = [0x0012, 0x0013, 0x0144, 0x0253, 0x0255, 0x0257, 0x0259, 0x071B, 0x071C, 0x071D, 0x071E]
+# ADI 19 and register 0258h are no E numbers; the registers beside 0258h, and 19 itself, are no row's
+NO_E, NO_REGISTER = [0x0013, 0x0258], [0x0257, 0x0259, 0x0013]
 
 
 def modbus_unit(draw, message):
-    """The data unit of a request: 03 or 04, 06 or 16; of the mask's two words, 16."""
-    row = ROWS.get(message.name)
-    place, width = (row.register if row else draw.one_of(NO_REGISTER)).to_bytes(2, "big"), row.width if row else 1
+    """The data unit of a request: 03 or 04, 06 or 16."""
+    register = ROWS[message.name].register if message.name in ROWS else draw.one_of(NO_REGISTER)
+    place = register.to_bytes(2, "big")
     if message.number is None:
-        return bytes([draw.one_of([3, 4])]) + place + bytes([0, width])
-    numbers = [message.number] if width == 1 else message.number
-    words = b"".join((number % 65536).to_bytes(2, "big") for number in numbers)
-    many = b"\x10" + place + bytes([0, width, 2 * width]) + words
-    return draw.one_of([b"\x06" + place + words, many]) if width == 1 else many
+        return bytes([draw.one_of([3, 4])]) + place + b"\x00\x01"
+    word = (message.number % 65536).to_bytes(2, "big")
+    return draw.one_of([b"\x06" + place + word, b"\x10" + place + b"\x00\x01\x02" + word])
 
 
 def modbus_answer(unit, outcome, number):

@@ -13,9 +13,8 @@ use Rattle.base.proofs.Tests.{same_test, both_false, both_out}
 use Rattle.allowed.specs.Words.{narrow, rank_of, listed}
 use Rattle.allowed.specs.Allowed.{twos, integer_of, eq_z, member, within, below_limt, above_magn, about, at_mode, setpoint_allows, allows, allowed_at}
 use Rattle.base.proofs.Arms.{NoneOf, up_from, past}
-use Rattle.table.specs.Names.{Drive-Control, Control-Mask}
 use Rattle.table.specs.Table.{rows, line_at}
-use Rattle.table.specs.declared.lines.Allowed.TheVariants.{Between, OneOf, BelowLimt, AboveMagn, ByMode, AnyWord}
+use Rattle.table.specs.declared.lines.Allowed.TheVariants.{Between, OneOf, BelowLimt, AboveMagn, ByMode}
 use Rattle.table.proofs.Columns.{from_inv_st}
 use Rattle.allowed.specs.declared.Bounds.{Bounds}
 
@@ -252,23 +251,10 @@ module _ (row k w : ℕ) (by : Bounds) (r : Bool) (at : row ≡ k) where
   unfolding allows
   row_setpoint e one rule = by_rule one (e ∙ rw rule)
 
-  -- any word of the row's width
-  pub row_any : r ≡ ltb w 0x10000 → (line_at k).registers ≡ 1 → (line_at k).allowed ≡ AnyWord → r ≡ allowed_at row by w
-  unfolding allows narrow
-  row_any e one rule = by_rule one (e ∙ rw rule (either_way (ltb w 0x10000)))
-    where
-      either_way : (t : Bool) → t ≡ pick t true false
-      either_way true = refl
-      either_way false = refl
-
-  pub row_any_long : r ≡ true → (line_at k).registers ≡ 2 → (line_at k).allowed ≡ AnyWord → r ≡ allowed_at row by w
-  unfolding allowed_at allows
-  row_any_long e two rule = rw at (simp (two, rule) e)
-
--- the rows past SCMD allow nothing, but for Drive Control and its mask
-pub past_scmd : (n w : ℕ) (by : Bounds) → NoneOf n (up_from 0 24) → NoneOf n (Drive-Control ∷ Control-Mask ∷ []) → false ≡ allowed_at n by w
+-- the rows past SCMD allow nothing
+pub past_scmd : (n w : ℕ) (by : Bounds) → NoneOf n (up_from 0 24) → false ≡ allowed_at n by w
 unfolding allowed_at allows line_at rows
-past_scmd n w by h o = rw (← from_inv_st (λ l. l.allowed) n refl (past 24 0 n (omega arith) h) o.0 o.1.0) (go (eqb (line_at n).registers 2) (ltb w 0x10000))
+past_scmd n w by h = rw (← from_inv_st (λ l. l.allowed) n refl (past 24 0 n (omega arith) h)) (go (eqb (line_at n).registers 2) (ltb w 0x10000))
   where
     go : (s t : Bool) → false ≡ pick s false (pick t false false)
     go true t = refl

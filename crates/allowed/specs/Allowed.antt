@@ -1,10 +1,10 @@
 -- Which numbers a row allows. Assumes nothing.
-use Rattle.std.specs.Prelude.{Bool, true, false, List, [], ◌∷◌, ℕ, suc, ◌+◌, ◌-◌, ◌%◌, eqb, ltb, ℤ, pos, negsuc, neg_ℤ}
+use Rattle.std.specs.Prelude.{Bool, false, List, [], ◌∷◌, ℕ, suc, ◌+◌, ◌-◌, ◌%◌, eqb, ltb, ℤ, pos, negsuc, neg_ℤ}
 use Rattle.std.specs.Int.Signed.{le_z, lt_z}
 use Rattle.base.specs.Choice.{pick, both, either}
 use Rattle.table.specs.Table.{line_at}
 use Rattle.table.specs.declared.lines.Allowed.{Allowed}
-use Rattle.table.specs.declared.lines.Allowed.TheVariants.{Between, OneOf, BelowLimt, AboveMagn, ByMode, AnyWord, Nothing}
+use Rattle.table.specs.declared.lines.Allowed.TheVariants.{Between, OneOf, BelowLimt, AboveMagn, ByMode, Nothing}
 use Rattle.allowed.specs.declared.Bounds.{Bounds}
 
 -- a word of which `half` words stand for the numbers from 0 on, and as many for those below 0: two's complement
@@ -58,7 +58,6 @@ allows (OneOf a b c d) by v = member v (a ∷ b ∷ c ∷ d ∷ [])
 allows BelowLimt by v = below_limt by.limt v
 allows (AboveMagn top) by v = above_magn by.magn top v
 allows ByMode by v = setpoint_allows by.mode v
-allows AnyWord by v = true
 allows Nothing by v = false
 
 -- "Rows 320, 321, 120 and 39 are 32 bits, two registers; .. all other rows two's complement": the number that a word stands for is one

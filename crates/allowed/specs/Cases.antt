@@ -1,6 +1,6 @@
 -- Worked cases, in one statement: which words a row allows at start. Assumes nothing.
 use Rattle.std.specs.Prelude.{◌≡◌, refl, Bool, true, false, List, [], ◌∷◌, map, ℕ}
-use Rattle.table.specs.Names.{P-Nom, I-magn, I-limt, R-fix1, RegAmp, SiAdr, SpdScl-num, Setpoint, SCMD, Inv-St, Drive-Control, Control-Mask}
+use Rattle.table.specs.Names.{P-Nom, I-magn, I-limt, R-fix1, RegAmp, SiAdr, SpdScl-num, Setpoint, SCMD, Inv-St}
 use Rattle.table.specs.Table.{rows, line_at}
 use Rattle.allowed.specs.Allowed.{twos, integer_of, within, member, below_limt, above_magn, at_mode, setpoint_allows, allows, allowed_at}
 use Rattle.allowed.specs.declared.Bounds.{Bounds}
@@ -38,10 +38,6 @@ words =
     ∷ tried SCMD 129 true
     ∷ tried SCMD 130 false
     ∷ tried Inv-St 0 false
-    -- every word of the width, in Drive Control and in its mask
-    ∷ tried Drive-Control 0xFFFF true
-    ∷ tried Drive-Control 0x10000 false
-    ∷ tried Control-Mask 0xFFFFFFFF true
     ∷ []
 
 abbrev at_start : Bounds

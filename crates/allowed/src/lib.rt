@@ -48,8 +48,6 @@ pub fn allows(row: Row, word: u32, by: Bounds) -> bool
         SETPOINT => setpoint(by.mode, word),
         MODE => one_of(1, 2, 3, 3, word),
         SCMD => one_of(0, 129, 257, 257, word),
-        DRIVE_CONTROL => word < 0x10000,
-        CONTROL_MASK => true,
         _ => false,
     }
 }

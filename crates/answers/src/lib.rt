@@ -18,7 +18,7 @@ pub enum Refusal {
     FlagStands,
     // 6: Init row, running
     Running,
-    // 7: SCMD not permitted, a row of the other method, or a step of Drive Control out of turn
+    // 7: SCMD not permitted
     NotPermitted,
     // 8: value not hex; bad length or count
     Malformed,
@@ -38,7 +38,7 @@ pub struct Change {
 pub enum Answer {
     // 0: the row told this word
     Told(Row, u32),
-    // 0: the row was written, with this word
+    // 0: the row holds this word now
     Written(Change),
     // 0: this part of the identity was told
     Identified(Part),

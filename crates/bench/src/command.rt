@@ -1,15 +1,14 @@
-// What a line says that has up to three words or starts a card: a command with its numbers, and beside it the bytes that HEX spells.
+// What a line of up to four words says: a command with its numbers, and beside it the bytes that HEX spells.
 use bench_words::{Number, Short, Spelling};
 use card::Protocol;
-use drive::Method;
 use identity::LENGTH;
-use protocols::{Chosen, Named};
+use protocols::Named;
 
 // A command. Where it has a HEX, its last number tells how many bytes that spells; the first of `Call` is the buffer's size. The HEX of `StartAs` is an identity.
 #[derive(Clone, Copy)]
 pub(crate) enum Command {
-    Start(Protocol, Method),
-    StartAs(Protocol, Method),
+    Start(Protocol),
+    StartAs(Protocol),
     Restart,
     Bytes(usize),
     Call(usize, usize),
@@ -47,40 +46,29 @@ fn alone(name: &[u8]) -> Command {
     Command::NotACommand
 }
 
-// `start P`, and behind it, each at most once and in this order, `method M` and `identity HEX`
-fn start(line: &[u8], bytes: &mut [u8]) -> Command {
-    let Named::Protocol(protocol) = protocols::protocol_of(bench_words::word(line, 1)) else {
+// `start P`
+fn start(word: &[u8]) -> Command {
+    let Named::Protocol(protocol) = protocols::protocol_of(word) else {
         return Command::NotACommand;
     };
-    if check::same(bench_words::word(line, 2), b"method") {
-        let Chosen::Method(method) = protocols::method_of(bench_words::word(line, 3)) else {
-            return Command::NotACommand;
-        };
-        return start_by(protocol, method, line, 4, bytes);
-    }
-    start_by(protocol, Method::Scmd, line, 2, bytes)
+    Command::Start(protocol)
 }
 
-// The words of such a line from word `k` on, counted from 0: none, or `identity HEX`, where HEX spells an identity
-fn start_by(protocol: Protocol, method: Method, line: &[u8], k: u8, bytes: &mut [u8]) -> Command {
-    let next = k as usize;
-    let words = bench_words::count(line);
-    if words == next {
-        return Command::Start(protocol, method);
-    }
-    if words != next + 2 {
+// `start P identity HEX`: HEX spells an identity
+fn start_as(word: &[u8], option: &[u8], hex: &[u8], bytes: &mut [u8]) -> Command {
+    let Named::Protocol(protocol) = protocols::protocol_of(word) else {
         return Command::NotACommand;
-    }
-    if !check::same(bench_words::word(line, next), b"identity") {
-        return Command::NotACommand;
-    }
-    let Spelling::Bytes(n) = bench_words::spelt(bench_words::word(line, next + 1), bytes) else {
+    };
+    let Spelling::Bytes(n) = bench_words::spelt(hex, bytes) else {
         return Command::NotACommand;
     };
     if n != LENGTH {
         return Command::NotACommand;
     }
-    Command::StartAs(protocol, method)
+    if check::same(option, b"identity") {
+        return Command::StartAs(protocol);
+    }
+    Command::NotACommand
 }
 
 // `din1 0`, `din1 1`
@@ -127,8 +115,11 @@ fn counted(name: &[u8], number: &[u8]) -> Command {
     Command::NotACommand
 }
 
-// `din1 N` and the others without a HEX
+// `start P`, `din1 N` and the others without a HEX
 fn with_number(name: &[u8], word: &[u8]) -> Command {
+    if check::same(name, b"start") {
+        return start(word);
+    }
     if check::same(name, b"din1") {
         return din1(word);
     }
@@ -194,11 +185,21 @@ fn with_two(name: &[u8], first: &[u8], word: &[u8], bytes: &mut [u8]) -> Command
     Command::NotACommand
 }
 
+// A name with three words after it.
+fn with_three(line: &[u8], bytes: &mut [u8]) -> Command {
+    if check::same(bench_words::word(line, 0), b"start") {
+        return start_as(
+            bench_words::word(line, 1),
+            bench_words::word(line, 2),
+            bench_words::word(line, 3),
+            bytes,
+        );
+    }
+    Command::NotACommand
+}
+
 // The command that the line is. The bytes of its HEX stand at the start of `bytes`.
 pub(crate) fn parse(line: &[u8], bytes: &mut [u8]) -> Command {
-    if check::same(bench_words::word(line, 0), b"start") {
-        return start(line, bytes);
-    }
     match bench_words::count(line) {
         1 => alone(line),
         2 => with_one(
@@ -212,6 +213,7 @@ pub(crate) fn parse(line: &[u8], bytes: &mut [u8]) -> Command {
             bench_words::word(line, 2),
             bytes,
         ),
+        4 => with_three(line, bytes),
         _ => Command::NotACommand,
     }
 }

@@ -160,13 +160,13 @@ fn identity_in(spelt: &[u8]) -> Identity {
 // Does a command, whose bytes stand at the start of `buffer`.
 fn perform(card: Card, command: Command, buffer: &[u8]) -> Card {
     match command {
-        Command::Start(protocol, method) => {
+        Command::Start(protocol) => {
             outcome(0);
-            Card::start(protocol, method, BLANK)
+            Card::start(protocol, BLANK)
         }
-        Command::StartAs(protocol, method) => {
+        Command::StartAs(protocol) => {
             outcome(0);
-            Card::start(protocol, method, identity_in(buffer))
+            Card::start(protocol, identity_in(buffer))
         }
         Command::Restart => {
             outcome(0);

@@ -5,7 +5,6 @@ mod lines;
 mod state;
 
 use card::{Card, Protocol};
-use drive::Method;
 use identity::BLANK;
 use lines::{Reader, Text};
 
@@ -26,7 +25,7 @@ fn main() {
     let mut scrap = [0u8; 4096];
     let mut text = [0u8; 2700];
     let mut reader = Reader::new();
-    let mut card = Card::start(Protocol::Nfo, Method::Scmd, BLANK);
+    let mut card = Card::start(Protocol::Nfo, BLANK);
     let mut turns = u64::MAX;
     while turns > 0 {
         reader = reader.next(&mut scrap, &mut text);

@@ -1,6 +1,6 @@
 // The state line of a card. No other file of the bench looks inside one.
 use card::Card;
-use drive::{CAUSES, DIN1, FLAGS, METHOD, Plant, STATION};
+use drive::{CAUSES, DIN1, FLAGS, Plant, STATION};
 use port::{Numbers, PROTOCOL, SIOERR, SUM};
 use table::names::*;
 
@@ -39,7 +39,7 @@ fn show(held: &[u8; 512], len: usize, port: &Numbers, plant: &Plant) {
         &words[P_NOM..MODE],
         &others,
         waiting,
-        &[plant[DRIVE_STATUS], plant[DRIVE_CONTROL], plant[METHOD]],
+        plant[DRIVE_STATUS],
     );
     bench_lines::end(&mut out, n);
 }

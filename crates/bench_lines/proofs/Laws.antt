@@ -12,7 +12,7 @@ use lib.ListN.{length, drop, get_or, set, length-append, drop_of_length-le}
 use lib.Seq.{sets, length-sets, set_out, drop-cons}
 use Rattle.base.proofs.Sets.{sets_append, sets_out}
 use Rattle.hex_pairs.specs.Hex.{digit_of, hex_of}
-use Rattle.bench_lines.specs.Answer.{end_of, decimal_of, spaced_of, signed_of, pair_of, shown}
+use Rattle.bench_lines.specs.Answer.{end_of, decimal_of, signed_of, pair_of, shown}
 use Rattle.bench_lines.specs.State.{is_short, is_long, column_of, columns_of}
 
 -- a text was put at a place of a buffer: where it ends, and the buffer then
@@ -79,10 +79,6 @@ pub next_byte : (s : List ℕ) (i : ℕ) → i < length s → hex_of (drop i s) 
 unfolding hex_of pair_of
 next_byte s i h = rw (add-one, drop-cons s i 0)
 
-pub next_spaced : (s : List ℕ) (i w : ℕ) → i < length s → w ≡ get_or s i 0 → spaced_of (drop i s) ≡ (0x20 ∷ decimal_of w) ++ spaced_of (drop (i + 1) s)
-unfolding spaced_of
-next_spaced s i w h e = rw (e, add-one, drop-cons s i 0)
-
 pub columns_start : (o : List ℕ) (at from : ℕ) (words : List ℕ) → Putting o at (columns_of from words) o at (columns_of (from + 0) words)
 columns_start o at from words = rw add-zero (putting_starts o at (columns_of from words))
 
@@ -104,10 +100,6 @@ left_none s i h = drop_of_length-le s h
 pub hex_none : (s : List ℕ) (i : ℕ) → length s ≤ i → hex_of (drop i s) ≡ []
 unfolding hex_of
 hex_none s i h = rw (drop_of_length-le s h)
-
-pub spaced_none : (s : List ℕ) (i : ℕ) → length s ≤ i → spaced_of (drop i s) ≡ []
-unfolding spaced_of
-spaced_none s i h = rw (drop_of_length-le s h)
 
 pub columns_none : (from : ℕ) (s : List ℕ) (i : ℕ) → length s ≤ i → columns_of (from + i) (drop i s) ≡ []
 unfolding columns_of

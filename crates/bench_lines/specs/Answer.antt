@@ -16,11 +16,6 @@ digits_up_to (suc k) n = pick (ltb n 10) ((0x30 + n % 10) ∷ []) (digits_up_to 
 unfoldable pub decimal_of : ℕ → List ℕ
 decimal_of n = digits_up_to 19 n
 
--- "Words are parted by exactly one space": numbers one after the other, a space before each
-unfoldable pub spaced_of : List ℕ → List ℕ
-spaced_of [] = []
-spaced_of (n ∷ ns) = 0x20 ∷ (decimal_of n ++ spaced_of ns)
-
 -- "with `-` in front if negative": a word in two's complement, one of `all` words
 unfoldable pub signed_of : ℕ → ℕ → List ℕ
 signed_of all word = pick (ltb word (all / 2)) (decimal_of word) (0x2D ∷ decimal_of (all - word))

@@ -1,7 +1,7 @@
--- The state line: "38 words: 34 decimal numbers, the pending bytes in HEX or `-`, and three decimal numbers" (docs/BENCH.md). Assumes nothing.
+-- The state line: "36 words: 34 decimal numbers, the pending bytes in HEX or `-`, and a decimal number" (docs/BENCH.md). Assumes nothing.
 use Rattle.std.specs.Prelude.{Bool, List, [], ◌∷◌, ◌++◌, ℕ, suc, ◌%◌, leb, eqb}
 use Rattle.base.specs.Choice.{pick, both, either}
-use Rattle.bench_lines.specs.Answer.{decimal_of, spaced_of, signed_of, shown}
+use Rattle.bench_lines.specs.Answer.{decimal_of, signed_of, shown}
 
 -- "2 to 23: rows 301 to 322, signed", of which 320 and 321 are 32 bits; "27, 28, 29: FrqAct (signed), I-rms (signed), OpTime"
 unfoldable pub is_short : ℕ → Bool
@@ -19,7 +19,7 @@ unfoldable pub columns_of : ℕ → List ℕ → List ℕ
 columns_of k [] = []
 columns_of k (w ∷ ws) = column_of k w ++ (0x20 ∷ columns_of (suc k) ws)
 
--- "1: protocol", "2 to 23", "24, 25, 26" and on, "35: pending bytes", "36, 37: the stored status word, the stored control word", "38: method"
-unfoldable pub state_of : ℕ → List ℕ → List ℕ → List ℕ → List ℕ → List ℕ
-state_of protocol rows others pending behind =
-    columns_of 1 (protocol ∷ []) ++ (columns_of 2 rows ++ (columns_of 24 others ++ (shown pending ++ spaced_of behind)))
+-- "1: protocol", "2 to 23", "24, 25, 26" and on, "35: pending bytes", "36: the stored status word"
+unfoldable pub state_of : ℕ → List ℕ → List ℕ → List ℕ → ℕ → List ℕ
+state_of protocol rows others pending status =
+    columns_of 1 (protocol ∷ []) ++ (columns_of 2 rows ++ (columns_of 24 others ++ (shown pending ++ (0x20 ∷ decimal_of status))))

@@ -1,7 +1,7 @@
 // Numbers in decimal.
 ghost use Rattle.std.specs.Prelude.{◌≡◌, ◌∷◌, ◌%◌, ◌≤◌};
 ghost use Rattle.std.proofs.lemmas.List.Edits.{sets};
-ghost use Rattle.bench_lines.specs.Answer.{end_of, decimal_of, spaced_of, signed_of};
+ghost use Rattle.bench_lines.specs.Answer.{end_of, decimal_of, signed_of};
 
 use crate::{put, put_all};
 
@@ -22,27 +22,6 @@ pub fn spaced(out: &mut [u8], at: usize, number: u64) -> usize
 {
     let n = put(out, at, b' ');
     unsigned(out, n, number)
-}
-
-// A word as a number of 64 bits.
-fn wide(word: u32) -> u64
-    ensures { result ≡ word }
-{
-    word as u64
-}
-
-// Numbers one after the other, a space before each.
-pub(crate) fn spaced_all(out: &mut [u8], at: usize, numbers: &[u32]) -> usize
-    ensures end { result ≡ end_of out.old at (spaced_of numbers.now) }
-    ensures lent { out.new ≡ sets out.old at (spaced_of numbers.now) }
-{
-    let mut n = at;
-    let mut i: usize = 0;
-    while i < numbers.len() {
-        n = spaced(out, n, wide(numbers[i]));
-        i += 1;
-    }
-    n
 }
 
 // A word in two's complement, one of `all` words.

@@ -4,8 +4,7 @@ ghost use Rattle.std.proofs.lemmas.List.Edits.{sets};
 ghost use Rattle.bench_lines.specs.Answer.{end_of};
 ghost use Rattle.bench_lines.specs.State.{is_short, is_long, column_of, columns_of, state_of};
 
-use crate::numbers::spaced_all;
-use crate::{bytes, put, signed16, signed32, unsigned};
+use crate::{bytes, put, signed16, signed32, spaced, unsigned};
 
 // Columns 2 to 23 are rows 301 to 322, of which 320 and 321 have 32 bits; FrqAct, column 27, has 16.
 fn is_short(k: usize) -> bool
@@ -65,21 +64,21 @@ fn columns(out: &mut [u8], at: usize, from: u8, words: &[u32]) -> usize
     n
 }
 
-// The state line: the protocol, rows 301 to 322, the columns after them, the pending bytes, and the numbers behind these.
+// The state line: the protocol, rows 301 to 322, the columns after them, the pending bytes, and Drive Status.
 pub fn state_line(
     out: &mut [u8],
     protocol: u32,
     rows: &[u32],
     others: &[u32],
     pending: &[u8],
-    behind: &[u32],
+    status: u32,
 ) -> usize
-    ensures end { result ≡ end_of out.old 0 (state_of protocol rows.now others.now pending.now behind.now) }
-    ensures lent { out.new ≡ sets out.old 0 (state_of protocol rows.now others.now pending.now behind.now) }
+    ensures end { result ≡ end_of out.old 0 (state_of protocol rows.now others.now pending.now status) }
+    ensures lent { out.new ≡ sets out.old 0 (state_of protocol rows.now others.now pending.now status) }
 {
     let first = columns(out, 0, 1, &[protocol]);
     let second = columns(out, first, 2, rows);
     let third = columns(out, second, 24, others);
     let fourth = bytes(out, third, pending);
-    spaced_all(out, fourth, behind)
+    spaced(out, fourth, status as u64)
 }

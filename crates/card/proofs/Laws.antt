@@ -12,7 +12,6 @@ use Rattle.drive.specs.Plant.{Plant}
 use Rattle.drive.specs.Plant as Plants
 use Rattle.drive.specs.Events as Drive
 use Rattle.drive.specs.declared.events.Measured.{Measured}
-use Rattle.drive.specs.declared.plant.Method.{Method}
 use Rattle.drive.specs.Events.{Event, raised, ended, port_fault, with_active, with_measured}
 use Rattle.pending.specs.declared.Pending.{Pending}
 use Rattle.pending.specs.Held as Held
@@ -24,10 +23,10 @@ use Rattle.card.specs.declared.outcome.Outcome.{Outcome}
 use Rattle.card.specs.declared.outcome.Outcome.TheVariants.{Done, NoSuchEvent}
 
 -- ---- the parts of the state, each as its routine made it
-pub started_of : (protocol : Protocol) (method : Method) (i : Identity) (q p : Plant) (held : Pending) → p ≡ Plants.started method → held ≡ Held.empty → q ≡ fresh (protocol_number protocol)
-    → ◌≡◌ {A = Card} (record { port = record { pending = held; numbers = q }; plant = p; identity = i }) (started protocol method i)
+pub started_of : (protocol : Protocol) (i : Identity) (q p : Plant) (held : Pending) → p ≡ Plants.started → held ≡ Held.empty → q ≡ fresh (protocol_number protocol)
+    → ◌≡◌ {A = Card} (record { port = record { pending = held; numbers = q }; plant = p; identity = i }) (started protocol i)
 unfolding started
-started_of protocol method i q p held a b d = rw (a, b, d)
+started_of protocol i q p held a b d = rw (a, b, d)
 
 pub restarted_of : (c : Card) (q p : Plant) (held : Pending) → p ≡ Drive.restarted c.plant → held ≡ Held.emptied c.port.pending → q ≡ fresh (protocol_of c)
     → record { port = record { pending = held; numbers = q }; plant = p; identity = c.identity } ≡ restarted c

@@ -6,7 +6,6 @@ use Rattle.port.specs.Port as Ports
 use Rattle.drive.specs.Plant.{Plant}
 use Rattle.drive.specs.Plant as Plants
 use Rattle.drive.specs.Events as Drive
-use Rattle.drive.specs.declared.plant.Method.{Method}
 use Rattle.pending.specs.declared.Pending.{Pending}
 use Rattle.pending.specs.Held as Held
 use Rattle.card.specs.declared.state.Card.{Card}
@@ -49,11 +48,10 @@ protocol_number Nfo = 0
 protocol_number Rtu = 1
 protocol_number Ascii = 2
 
--- "A method is chosen at start: 1, MODE and SCMD, or 2, these bits"
-unfoldable pub started : Protocol → Method → Identity → Card
-started protocol method i = record { port = record { pending = Held.empty; numbers = fresh (protocol_number protocol) }; plant = Plants.started method; identity = i }
+unfoldable pub started : Protocol → Identity → Card
+started protocol i = record { port = record { pending = Held.empty; numbers = fresh (protocol_number protocol) }; plant = Plants.started; identity = i }
 
--- "Restart keeps rows 301 to 322, DIN1, causes and measured numbers; .. SioErr and sum 0, nothing pending", but for a SiAdr of 0 or 95 (`healed`), and the method; "The
--- stored word .. restart clears it"; "No message changes the identity", nor does a restart
+-- "Restart keeps rows 301 to 322, DIN1, causes and measured numbers; .. SioErr and sum 0, nothing pending", but for a SiAdr of 0 or 95 (`healed`); "No message
+-- changes the identity", nor does a restart
 unfoldable pub restarted : Card → Card
 restarted c = record { port = record { pending = Held.emptied c.port.pending; numbers = fresh (protocol_of c) }; plant = Drive.restarted c.plant; identity = c.identity }

@@ -3,7 +3,7 @@ ghost use Rattle.std.specs.Prelude.{◌≡◌};
 ghost use Rattle.port.specs.Port.{fresh};
 ghost use Rattle.card.specs.State.{protocol_number, started, restarted};
 
-use drive::{Method, Plant};
+use drive::Plant;
 use identity::Identity;
 use pending::Pending;
 use port::{Numbers, PROTOCOL};
@@ -58,22 +58,22 @@ pub fn restarted_port(port: Numbers) -> Numbers
 }
 
 impl Card {
-    // A card at start, steered by this method, with this identity: the table's start words, DIN1 inactive, no cause, nothing pending.
-    pub fn start(protocol: Protocol, method: Method, identity: Identity) -> Card
-        ensures { result ≡ started protocol method identity }
+    // A card at start, with this identity: the table's start words, DIN1 inactive, no cause, nothing pending.
+    pub fn start(protocol: Protocol, identity: Identity) -> Card
+        ensures { result ≡ started protocol identity }
     {
         Card {
             port: Port {
                 pending: Pending::empty(),
                 numbers: fresh_port(protocol),
             },
-            plant: drive::start(method),
+            plant: drive::start(),
             identity,
         }
     }
 
-    // The card after a restart: the settings, DIN1, causes, measured numbers, the method and the identity are kept, nothing is pending, no bit of Drive Control is
-    // stored, MbAdr counts from now on, and a SiAdr of 0 or 95 is 1.
+    // The card after a restart: the settings, DIN1, causes, measured numbers and the identity are kept, nothing is pending, MbAdr counts from now on,
+    // and a SiAdr of 0 or 95 is 1.
     pub fn restart(self) -> Card
         ensures { result ≡ restarted self }
     {

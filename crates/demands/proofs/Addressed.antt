@@ -7,24 +7,22 @@ use native.Mathlib.Omega.{arith}
 use lib.Dec.{eqb, ltb}
 use lib.ListN.{get_or, set}
 use Rattle.base.proofs.Tests.{pick_both}
-use Rattle.table.specs.Names.{SiAdr, MbAdr, Mode, Setpoint, MODE, SCMD, FrqAct, I-rms, OpTime, Drive-Status, Drive-Control}
+use Rattle.table.specs.Names.{SiAdr, MbAdr, Mode, Setpoint, MODE, SCMD, FrqAct, I-rms, OpTime, Drive-Status}
 use Rattle.drive.specs.Plant.{Plant, DIN1, Causes, Flags, Station, si_adr, mode, flags, with_si_adr, with_station}
 use Rattle.drive.proofs.Laws.{healed_both}
-use Rattle.drive.specs.Bits.{is_set, Acknowledge, disabled, switched_off}
 use Rattle.drive.specs.Status.{righted}
 use Rattle.drive.specs.Faults.{reflagged, halted, flag_raised, acknowledged, without14, stopped}
 use Rattle.drive.specs.Events.{healed, restarted, is_fault, Event, raised, ended, port_fault, switched, with_active, with_measured}
-use Rattle.drive.specs.Control.{is_control, acknowledged_by, steered}
 use Rattle.drive.specs.declared.events.Measured.{Measured}
 use Rattle.drive.specs.declared.events.Measured.TheVariants.{Frq, Rms, Optime}
 use Rattle.permit.specs.Refusals.{allowed}
-use Rattle.service.specs.Write.{followed, applied_past, applied}
+use Rattle.service.specs.Write.{followed, applied}
 use Rattle.card.specs.declared.state.Card.{Card}
 use Rattle.demands.specs.Calls.{Step, Run}
 use Rattle.demands.specs.Kept.{OwnAddress, Healed}
 use Rattle.demands.proofs.Allowing.{si_adr_lem}
 use Rattle.demands.proofs.Changes.{Changes, step_keeps, run_keeps}
-use Rattle.demands.proofs.AtName.{at_name}
+use Rattle.demands.proofs.KeptPlant.{at_name}
 
 -- SiAdr after a restart is neither 0 nor 95; and an address of the line is one then that a card may have for its own
 pub healed_never : (a : ℕ) → Healed (healed a)
@@ -58,8 +56,8 @@ module _ (Q : ℕ → Type 0) (writes : (p : Plant) (w : ℕ) → allowed p SiAd
   reflagged_at x p at = pick_both At (eqb (flags p) x) (λ _. at) (λ _. righted_at _ (past p Flags x (omega arith) at))
 
   flag_at : (mask : ℕ) (p : Plant) → At p → At (flag_raised mask p)
-  unfolding flag_raised disabled
-  flag_at mask p at = halted_at _ _ (past p Drive-Control _ (omega arith) at)
+  unfolding flag_raised
+  flag_at mask p = halted_at _ p
 
   raised_at : (n : ℕ) (p : Plant) → At p → At (raised n p).plant
   unfolding raised
@@ -70,9 +68,9 @@ module _ (Q : ℕ → Type 0) (writes : (p : Plant) (w : ℕ) → allowed p SiAd
   ended_at n p at = pick_both (λ (e : Event). At e.plant) (is_fault n) (λ _. past p Causes _ (omega arith) at) (λ _. at)
 
   active_at : (active : Bool) (p : Plant) → At p → At (with_active active p)
-  unfolding with_active switched switched_off
+  unfolding with_active switched
   active_at true p at = righted_at _ (past p DIN1 1 (omega arith) at)
-  active_at false p at = righted_at _ (past _ SCMD 0 (omega arith) (past _ Drive-Control _ (omega arith) (past p DIN1 0 (omega arith) at)))
+  active_at false p at = righted_at _ (past _ SCMD 0 (omega arith) (past p DIN1 0 (omega arith) at))
 
   measured_at : (m : Measured) (p : Plant) → At p → At (with_measured m p)
   unfolding with_measured
@@ -86,7 +84,7 @@ module _ (Q : ℕ → Type 0) (writes : (p : Plant) (w : ℕ) → allowed p SiAd
 
   restarted_at : (p : Plant) → At p → At (restarted p)
   unfolding restarted
-  restarted_at p at = righted_at _ (past _ MODE 1 (omega arith) (past _ SCMD 0 (omega arith) (past _ Drive-Control 0 (omega arith) (past _ Flags _ (omega arith) there))))
+  restarted_at p at = righted_at _ (past _ MODE 1 (omega arith) (past _ SCMD 0 (omega arith) (past _ Flags _ (omega arith) there)))
     where
       ours : Plant
       ours = with_station (get_or p MbAdr 0) p
@@ -106,17 +104,12 @@ module _ (Q : ℕ → Type 0) (writes : (p : Plant) (w : ℕ) → allowed p SiAd
   unfolding stopped
   stopped_at p = halted_at _ p
 
-  steered_at : (word : ℕ) (p : Plant) → At p → At (steered word p)
-  unfolding steered acknowledged_by
-  steered_at word p at =
-      righted_at _ (past _ MODE _ (omega arith) (past _ Drive-Control _ (omega arith) (pick_both At (is_set Acknowledge word) (λ _. acknowledged_at p at) (λ _. at))))
-
   -- a write that is not refused is allowed
   applied_at : (row w : ℕ) (p : Plant) → allowed p row w ≡ true → At p → At (applied row w p)
-  unfolding applied applied_past followed
+  unfolding applied followed
   applied_at row w p can at =
       let there : At (set p row w) = record { word = at_name Q p row SiAdr w at.word (λ e. writes p w (rw (← e) can)) } in
-      pick_both At (ltb SCMD row) (λ _. pick_both At (is_control row) (λ _. steered_at _ p at) (λ _. at))
+      pick_both At (ltb SCMD row) (λ _. at)
       (λ _. pick_both At (eqb (get_or p row 0) w) (λ _. there)
       (λ _. righted_at _
       (pick_both At (eqb row Mode) (λ _. past _ Setpoint 0 (omega arith) there) (λ _. pick_both At (eqb row MODE) (λ _. past _ SCMD 0 (omega arith) there) (λ _. there)))))
@@ -134,7 +127,7 @@ module _ (Q : ℕ → Type 0) (writes : (p : Plant) (w : ℕ) → allowed p SiAd
         acknowledges = acknowledged_at;
         clears_14 = without14_at;
         stops = stopped_at;
-        writes = λ row w p can free may. applied_at row w p can;
+        writes = applied_at;
       }
 
   step_at : (c d : Card) → Step c d → Q (si_adr c.plant) → Q (si_adr d.plant)

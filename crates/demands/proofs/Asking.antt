@@ -1,6 +1,5 @@
 -- What comes of a message that asks for a row, and of one that writes a row, on a card with nothing pending. Assumes nothing.
 use mathlib.Core.Path.{◌≡◌, refl, sym, ap, ◌∙◌}
-use mathlib.Core.Logic.{◌≢◌}
 use mathlib.Core.Bool.{true, false}
 use mathlib.Core.List.{List, []}
 use Prim.Native.Nat.{ℕ, ◌+◌, ◌<◌}
@@ -11,15 +10,12 @@ use lib.ListN.{length}
 use Rattle.base.proofs.Tests.{either_right}
 use Rattle.stream.specs.Reading.{waiting, taking}
 use Rattle.stream.proofs.Reading.{empty_viable}
-use Rattle.table.specs.Names.{Control-Mask}
-use Rattle.table.specs.Find.{row_of_e, row_of_span, row_to_read}
-use Rattle.table.specs.declared.labels.Found.TheVariants.{NoRow}
+use Rattle.table.specs.Find.{row_of_e, row_of_span}
 use Rattle.table.specs.declared.labels.Register.{Register}
 use Rattle.port.specs.Port.{Numbers}
 use Rattle.drive.specs.Plant.{Plant, si_adr, station}
 use Rattle.answers.specs.declared.Answer.{Answer}
 use Rattle.answers.specs.declared.Answer.TheVariants as Answers
-use Rattle.answers.specs.declared.Refusal.TheVariants as Refusals
 use Rattle.reading.specs.Read.{told}
 use Rattle.service.specs.Serving.{told_served}
 use Rattle.pending.specs.Held.{empty, held}
@@ -52,12 +48,11 @@ use Rattle.master_ascii.proofs.RoundTrip as Texts
 use Rattle.demands.specs.Calls.{LongEnough, Wire, nfo_serial, modbus_ascii, Speaks, NothingPending, besides}
 use Rattle.demands.specs.Kept.{Sound}
 use Rattle.demands.specs.Demand1.{TakesIt}
-use Rattle.demands.specs.Effects.{row, AsksRow, Asks, to_0, to_si_adr, rtu, ascii, Tells}
+use Rattle.demands.specs.Effects.{row, AsksRow, to_0, to_si_adr, rtu, ascii, Tells}
 use Rattle.demands.proofs.Streamed.{Streamed, nfo_streamed, ascii_streamed}
 use Rattle.demands.proofs.OneCall.{takes_it}
 use Rattle.demands.proofs.Taking.{reads_alone}
 use Rattle.demands.proofs.Demand2.{requests}
-use Rattle.demands.proofs.Labels.{e_not_mask, span_told, mask_untold}
 
 -- ---- a whole message, handed over in one call
 module _ (P : Wire) (S : Stream) (H : Streamed P S) where
@@ -89,19 +84,10 @@ module _ (p : Plant) (q : Numbers) (n : ℕ) where
   unfolding Nfo.served Nfo.enquiry_served Nfo.row_named told_served
   enquiry_told adr e us k = rw (us, k)
 
-  unit_told : (u : List ℕ) (f : ℕ) (first : Register) (count : ℕ) → Within 1 247 (station p) → request_of u ≡ Read f first count → row_to_read first.0 count ≡ row n
+  unit_told : (u : List ℕ) (f : ℕ) (first : Register) (count : ℕ) → Within 1 247 (station p) → request_of u ≡ Read f first count → row_of_span first.0 count ≡ row n
       → (Modbus.served p q (station p) u).answer ≡ tale
   unfolding Modbus.served Modbus.task_of Modbus.done Modbus.reaches_us told_served
   unit_told u f first count h e k =
-      let a : ℕ = station p in
-      let one : eqb a 0 ≡ false = ne_eqb a 0 (λ z. absurd (omega (arith, z, h.0))) in
-      let us : eqb a a ≡ true = eq-eqb a a refl in
-      rw (e, k, one, us)
-
-  unit_refused : (u : List ℕ) (f : ℕ) (first : Register) (count : ℕ) → Within 1 247 (station p) → request_of u ≡ Read f first count → row_to_read first.0 count ≡ NoRow
-      → (Modbus.served p q (station p) u).answer ≡ Answers.Refused Refusals.NoRow
-  unfolding Modbus.served Modbus.task_of Modbus.done Modbus.reaches_us
-  unit_refused u f first count h e k =
       let a : ℕ = station p in
       let one : eqb a 0 ≡ false = ne_eqb a 0 (λ z. absurd (omega (arith, z, h.0))) in
       let us : eqb a a ≡ true = eq-eqb a a refl in
@@ -119,55 +105,38 @@ to_us_si_adr p h =
     let one : eqb (s + 32) 127 ≡ false = ne_eqb (s + 32) 127 (λ e. absurd (omega (arith, e, enquirable_is s h))) in
     rw one (either_right (eqb (s + 32) 32) (eqb (s + 32) (s + 32)) (eq-eqb (s + 32) (s + 32) refl))
 
--- ---- what comes of a message that asks a card for row n, where each way to ask comes to the answer x
-module _ (c : Card) (n : ℕ) (x : Answer) where
+-- ---- so a card tells what a read of the row tells
+module _ (c : Card) (sound : Sound c) (n : ℕ) where
   abbrev p : Plant
   p = c.plant
 
   abbrev q : Numbers
   q = c.port.numbers
 
-  module _ (enquired : (adr e : ℕ) → Nfo.to_us p adr ≡ true → row_of_e e ≡ row n → (Nfo.served p q (Enquiry adr (Number (record { 0 = e })))).answer ≡ x)
-      (by-ask : (ask : Ask) (u : List ℕ) → AsksRow n ask → request_of u ≡ request_said ask [] → (Modbus.served p q (station p) u).answer ≡ x) where
-    by_enquiry : (address e : ℕ) → protocol_of c ≡ 0 → enquirable address ≡ true → e < 65536 → Nfo.to_us p (address + 32) ≡ true → row_of_e e ≡ row n
-        → (room : ℕ) → LongEnough c room → (received (besides c) (enquiry_of address e) room).outcome ≡ Outcomes.Served x
-    by_enquiry address e speaks can h us k room l =
-        whole_outcome nfo_serial nfo_stream nfo_streamed c speaks (enquiry_of address e) (enquiry_formed address e (omega (arith, enquirable_is address can))) room l
-        ∙ ap (λ m. Outcomes.Served (Nfo.served p q m).answer) (enquiry_heard address e h) ∙ ap Outcomes.Served (enquired (address + 32) e us k)
+  by_enquiry : (address e : ℕ) → protocol_of c ≡ 0 → enquirable address ≡ true → e < 65536 → Nfo.to_us p (address + 32) ≡ true → row_of_e e ≡ row n
+      → (room : ℕ) → LongEnough c room → (received (besides c) (enquiry_of address e) room).outcome ≡ Outcomes.Served (tale p q n)
+  by_enquiry address e speaks can h us k room l =
+      whole_outcome nfo_serial nfo_stream nfo_streamed c speaks (enquiry_of address e) (enquiry_formed address e (omega (arith, enquirable_is address can))) room l
+      ∙ ap (λ m. Outcomes.Served (Nfo.served p q m).answer) (enquiry_heard address e h) ∙ ap Outcomes.Served (enquiry_told p q n (address + 32) e us k)
 
-    asked_for : (m : List ℕ) → Asks c n m → (room : ℕ) → LongEnough c room → (received (besides c) m room).outcome ≡ Outcomes.Served x
-    unfolding exchanged enquirable
-    asked_for m (to_0 e speaks h k) room l = by_enquiry 0 e speaks refl h (to_us_0 p) k room l
-    asked_for m (to_si_adr e speaks can h k) room l = by_enquiry (si_adr p) e speaks can h (to_us_si_adr p can) k room l
-    asked_for m (rtu ask speaks can k) room l =
-        let r = requests.rtu (station p) ask [] can in
-        let f : List ℕ = rtu_of (station p) (request_unit ask []) in
-        ap (λ (x : Received). x.outcome) (r.0 (besides c) speaks room l)
-        ∙ ap (λ (a : ℕ). Outcomes.Served (Modbus.served p q a (unit_in f)).answer) r.1 ∙ ap Outcomes.Served (by-ask ask (unit_in f) k r.2.request)
-    asked_for m (ascii ask speaks can width k) room l =
-        let r = requests.ascii (station p) ask [] can width in
-        let t : List ℕ = ascii_of (station p) (request_unit ask []) in
-        whole_outcome modbus_ascii ascii_stream ascii_streamed c speaks t (Texts.asked_formed (station p) ask [] can width) room l
-        ∙ ap (λ (a : ℕ). Outcomes.Served (Modbus.served p q a (unit_among (bytes_in t))).answer) r.1 ∙ ap Outcomes.Served (by-ask ask (unit_among (bytes_in t)) k r.2.request)
+  -- 03 and 04 of its registers, as its line makes a message of them
+  by_ask : (ask : Ask) (u : List ℕ) → AsksRow n ask → request_of u ≡ request_said ask [] → (Modbus.served p q (station p) u).answer ≡ tale p q n
+  by_ask (Asked.Holding first count) u k e = unit_told p q n u 3 first count sound.plant.station e k
+  by_ask (Asked.Input first count) u k e = unit_told p q n u 4 first count sound.plant.station e k
+  by_ask (Asked.One register word) u k e = absurd k
+  by_ask (Asked.Many first) u k e = absurd k
 
--- 03 and 04 of its registers, where what is read there is known
-by_read : (c : Card) (n : ℕ) (x : Answer)
-    → ((u : List ℕ) (f : ℕ) (first : Register) (count : ℕ) → row_of_span first.0 count ≡ row n → request_of u ≡ Read f first count → (Modbus.served c.plant c.port.numbers (station c.plant) u).answer ≡ x)
-    → (ask : Ask) (u : List ℕ) → AsksRow n ask → request_of u ≡ request_said ask [] → (Modbus.served c.plant c.port.numbers (station c.plant) u).answer ≡ x
-by_read c n x each (Asked.Holding first count) u k e = each u 3 first count k e
-by_read c n x each (Asked.Input first count) u k e = each u 4 first count k e
-by_read c n x each (Asked.One register word) u k e = absurd k
-by_read c n x each (Asked.Many first) u k e = absurd k
-
--- ---- so a card tells what a read of the row tells
-pub tells : (c : Card) → Sound c → (n : ℕ) → n ≢ Control-Mask → Tells c n (told c.plant c.port.numbers n).word
-tells c sound n o =
-    asked_for c n (tale c.plant c.port.numbers n) (enquiry_told c.plant c.port.numbers n)
-    (by_read c n _ (λ u f first count k e. unit_told c.plant c.port.numbers n u f first count sound.plant.station e (span_told first.0 count _ o k)))
-
--- but of the mask nothing: no E number leads there, and its span is no row's that is read
-pub mask_refused : (c : Card) → Sound c → (m : List ℕ) → Asks c Control-Mask m → (room : ℕ) → LongEnough c room
-    → (received (besides c) m room).outcome ≡ Outcomes.Served (Answers.Refused Refusals.NoRow)
-mask_refused c sound =
-    asked_for c Control-Mask (Answers.Refused Refusals.NoRow) (λ adr e us k. absurd (e_not_mask e _ k refl))
-    (by_read c Control-Mask _ (λ u f first count k e. unit_refused c.plant c.port.numbers Control-Mask u f first count sound.plant.station e (mask_untold first.0 count k)))
+  pub tells : Tells c n (told p q n).word
+  unfolding exchanged enquirable
+  tells m (to_0 e speaks h k) room l = by_enquiry 0 e speaks refl h (to_us_0 p) k room l
+  tells m (to_si_adr e speaks can h k) room l = by_enquiry (si_adr p) e speaks can h (to_us_si_adr p can) k room l
+  tells m (rtu ask speaks can k) room l =
+      let r = requests.rtu (station p) ask [] can in
+      let f : List ℕ = rtu_of (station p) (request_unit ask []) in
+      ap (λ (x : Received). x.outcome) (r.0 (besides c) speaks room l)
+      ∙ ap (λ (a : ℕ). Outcomes.Served (Modbus.served p q a (unit_in f)).answer) r.1 ∙ ap Outcomes.Served (by_ask ask (unit_in f) k r.2.request)
+  tells m (ascii ask speaks can width k) room l =
+      let r = requests.ascii (station p) ask [] can width in
+      let t : List ℕ = ascii_of (station p) (request_unit ask []) in
+      whole_outcome modbus_ascii ascii_stream ascii_streamed c speaks t (Texts.asked_formed (station p) ask [] can width) room l
+      ∙ ap (λ (a : ℕ). Outcomes.Served (Modbus.served p q a (unit_among (bytes_in t))).answer) r.1 ∙ ap Outcomes.Served (by_ask ask (unit_among (bytes_in t)) k r.2.request)

@@ -1,7 +1,7 @@
 -- What each change of a plant keeps, every routine keeps, from any card at all: there is one list of the changes, and each routine makes one of them or none.
 -- Assumes nothing.
 use mathlib.Core.Path.{◌≡◌}
-use mathlib.Core.Bool.{Bool, true, false, not}
+use mathlib.Core.Bool.{Bool, true, not}
 use mathlib.Core.List.{List}
 use Prim.Native.Nat.{ℕ}
 use borrow.Author.Tests.{not-false}
@@ -11,12 +11,13 @@ use Rattle.table.specs.Names.{Inv-St-ack, Inv-St, SioErr}
 use Rattle.table.specs.declared.labels.Row.{Row}
 use Rattle.port.specs.Port.{Numbers}
 use Rattle.drive.specs.Plant.{Plant}
+use Rattle.drive.specs.Status.{flag_stands}
 use Rattle.drive.specs.Faults.{acknowledged, without14, stopped}
 use Rattle.drive.specs.Events as Drive
 use Rattle.drive.specs.Events.{raised, ended, port_fault, with_active, with_measured}
 use Rattle.drive.specs.declared.events.Measured.{Measured}
 use Rattle.reading.specs.Read.{Told, told}
-use Rattle.permit.specs.Refusals.{read_only, allowed, flag_holds, init_running, permitted}
+use Rattle.permit.specs.Refusals.{read_only, allowed, init_running, permitted}
 use Rattle.permit.specs.Permit.{permit_of}
 use Rattle.permit.specs.declared.Permit.{Permit}
 use Rattle.service.specs.Write.{applied, after, written}
@@ -41,8 +42,8 @@ pub record Changes (A : Plant → Type 0) : Type 0 where
   pub acknowledges : (p : Plant) → A p → A (acknowledged p)
   pub clears_14 : (p : Plant) → A p → A (without14 p)
   pub stops : (p : Plant) → A p → A (stopped p)
-  -- a write that is not refused is allowed, no flag holds it, and it is permitted
-  pub writes : (row w : ℕ) (p : Plant) → allowed p row w ≡ true → flag_holds p row w ≡ false → permitted p row w ≡ true → A p → A (applied row w p)
+  -- a write that is not refused is allowed
+  pub writes : (row w : ℕ) (p : Plant) → allowed p row w ≡ true → A p → A (applied row w p)
 
 module _ (A : Plant → Type 0) (change : Changes A) where
   -- ---- a message
@@ -64,9 +65,9 @@ module _ (A : Plant → Type 0) (change : Changes A) where
     wrote_keeps row w =
         pick_both After (read_only row) (λ _. at)
         (λ _. pick_both After (not (allowed p row w)) (λ _. at)
-        (λ can. pick_both After (flag_holds p row w) (λ _. at)
-        (λ free. pick_both After (init_running p row) (λ _. at)
-        (λ _. pick_both After (not (permitted p row w)) (λ _. at) (λ may. change.writes row w p (not-false (allowed p row w) can) free (not-false (permitted p row w) may) at)))))
+        (λ can. pick_both After (flag_stands p) (λ _. at)
+        (λ _. pick_both After (init_running p row) (λ _. at)
+        (λ _. pick_both After (not (permitted p row w)) (λ _. at) (λ _. change.writes row w p (not-false (allowed p row w) can) at)))))
       where
         After : Permit → Type 0
         After x = A (after x p)

@@ -1,36 +1,33 @@
 -- What each thing that a message comes to leaves of a card, by what reads tell then: a row written, the broadcast stop, a row told. Assumes nothing.
 use mathlib.Core.Path.{◌≡◌, refl, sym, ap, subst, ◌∙◌}
-use mathlib.Core.Logic.{◌⊎◌, inl, inr, ◌≢◌}
+use mathlib.Core.Logic.{◌≢◌}
 use mathlib.Core.Bool.{Bool, true, false}
-use Prim.Native.Nat.{ℕ, ◌/◌, ◌%◌, ◌≤◌, ◌<◌}
+use Prim.Native.Nat.{ℕ, ◌≤◌, ◌<◌}
 use native.Mathlib.Omega.{arith}
-use borrow.Author.Tests.{eqb-true, eqb-false, ne_eqb, lt-ltb, ltb-true}
+use borrow.Author.Tests.{eqb-true, eqb-false, ne_eqb, ltb-true}
 use lib.Bits.{bit_or, bit_and}
 use lib.Dec.{eqb, ltb}
 use lib.ListN.{length, get_or, length-set}
 use lib.Seq.{get_or-set_same, get_or-set_other}
-use Rattle.base.specs.Choice.{pick, both, either}
-use Rattle.base.proofs.Tests.{pick_both, either_out}
-use Rattle.table.specs.Names.{Mode, Setpoint, MODE, SCMD, Inv-St-ack, Inv-St, SioErr, Drive-Status, Drive-Control, Control-Mask, row_count}
+use Rattle.base.specs.Choice.{pick, both}
+use Rattle.base.proofs.Tests.{pick_both}
+use Rattle.table.specs.Names.{Mode, Setpoint, MODE, SCMD, Inv-St-ack, Inv-St, SioErr, Drive-Status, row_count}
 use Rattle.port.specs.Port.{Numbers, ProtocolAt, Sum, Sioerr, protocol, sum, sioerr, with_sum, with_sioerr}
-use Rattle.drive.specs.Plant.{Plant, DIN1, Causes, Flags, Station, MethodAt, scmd, control, din1, causes, flags, station, method, with_flags, with_scmd}
+use Rattle.drive.specs.Plant.{Plant, DIN1, Causes, Flags, Station, scmd, din1, causes, flags, station, with_flags, with_scmd}
 use Rattle.drive.specs.Flags.{flagged, only, all_but}
-use Rattle.drive.specs.Bits.{by_bits, is_set, without, Acknowledge}
 use Rattle.drive.specs.Faults.{halted, acknowledged, without14, stopped}
-use Rattle.drive.specs.Control.{is_control, masked, control_word, mode_by, steered}
 use Rattle.drive.proofs.Masks.{masks}
 use Rattle.drive.proofs.Flagging.{put_in, taken_out}
 use Rattle.drive.proofs.Righted.{righted_other}
-use Rattle.drive.proofs.Steering.{steered_other, steered_control, steered_mode, steered_flags}
 use Rattle.reading.specs.Read.{Told, stored, told}
-use Rattle.service.specs.Write.{applied_past, applied}
+use Rattle.service.specs.Write.{applied}
 use Rattle.service.proofs.Stores.{stores_told, leaves, sets_setpoint, sets_scmd}
 use Rattle.reading.proofs.Tells.{tells_stored, tells_ack, tells_sioerr}
 use Rattle.card.specs.State.{protocol_of, card_sum}
 use Rattle.card.specs.declared.state.Card.{Card}
 use Rattle.demands.specs.Calls.{besides}
 use Rattle.demands.specs.Kept.{Sound}
-use Rattle.demands.specs.Effects.{Tells, Unchanged, WriteLeaves, StopLeaves, ControlLeaves, flagged_with, sio_err_zeroed, ReadLeaves}
+use Rattle.demands.specs.Effects.{Tells, Unchanged, WriteLeaves, StopLeaves, flagged_with, sio_err_zeroed, ReadLeaves}
 use Rattle.demands.proofs.Asking.{tells}
 
 -- ---- what a read tells, from card to card
@@ -48,15 +45,11 @@ told_same p x q y n a b at s = rw (ne_eqb n Inv-St-ack a, ne_eqb n Inv-St b) (go
     go false false e f = refl
 
 -- a card that tells a word, told otherwise
-pub tells_word : (c : Card) → Sound c → (n w : ℕ) → n ≢ Control-Mask → (told c.plant c.port.numbers n).word ≡ w → Tells c n w
-tells_word c sound n w o e = subst (Tells c n) e (tells c sound n o)
+pub tells_word : (c : Card) → Sound c → (n w : ℕ) → (told c.plant c.port.numbers n).word ≡ w → Tells c n w
+tells_word c sound n w e = subst (Tells c n) e (tells c sound n)
 
-unchanged : (c d : Card) → Sound c → Sound d → (n : ℕ) → n ≢ Control-Mask → (told d.plant d.port.numbers n).word ≡ (told c.plant c.port.numbers n).word → Unchanged c d n
-unchanged c d sound then n o e = ((told c.plant c.port.numbers n).word, tells c sound n o, tells_word d then n _ o e)
-
--- a row that is stored tells its word
-pub tells_own : (c : Card) → Sound c → (n w : ℕ) → n < row_count → n ≢ Inv-St-ack → n ≢ Inv-St → n ≢ SioErr → n ≢ Control-Mask → get_or c.plant n 0 ≡ w → Tells c n w
-tells_own c sound n w l a b s o e = tells_word c sound n w o (ap (λ (t : Told). t.word) (tells_stored c.plant c.port.numbers n l a b s) ∙ e)
+unchanged : (c d : Card) → Sound c → Sound d → (n : ℕ) → (told d.plant d.port.numbers n).word ≡ (told c.plant c.port.numbers n).word → Unchanged c d n
+unchanged c d sound then n e = ((told c.plant c.port.numbers n).word, tells c sound n, tells_word d then n _ e)
 
 -- ---- the port's numbers
 module _ (q : Numbers) (three : length q ≡ 3) where
@@ -70,7 +63,7 @@ module _ (q : Numbers) (three : length q ≡ 3) where
   sioerr_0 = get_or-set_other (with_sioerr 0 q) Sum Sioerr 0 0 (λ e. absurd (omega (arith, e))) ∙ get_or-set_same q Sioerr 0 0 (omega (arith, three))
 
 -- ---- a row was written
-module _ (c : Card) (sound : Sound c) (d : Card) (then : Sound d) (row w : ℕ) (plain : is_control row ≡ false) (low : row ≤ SCMD) (plant : d.plant ≡ applied row w c.plant)
+module _ (c : Card) (sound : Sound c) (d : Card) (then : Sound d) (row w : ℕ) (low : row ≤ SCMD) (plant : d.plant ≡ applied row w c.plant)
     (port : d.port.numbers ≡ with_sum 0 c.port.numbers) (who : d.identity ≡ c.identity) where
   abbrev p : Plant
   p = c.plant
@@ -86,7 +79,7 @@ module _ (c : Card) (sound : Sound c) (d : Card) (then : Sound d) (row w : ℕ) 
   number_stays : (n : ℕ) → row_count ≤ n → get_or d.plant n 0 ≡ get_or p n 0
   number_stays n h =
       ap (λ (x : Plant). get_or x n 0) plant
-      ∙ leaves p row w n plain (λ e. absurd (omega (arith, e, low, h))) (λ e. absurd (omega (arith, e, h))) (λ _ _ e. absurd (omega (arith, e, h))) (λ _ _ e. absurd (omega (arith, e, h)))
+      ∙ leaves p row w n (λ e. absurd (omega (arith, e, low, h))) (λ e. absurd (omega (arith, e, h))) (λ _ _ e. absurd (omega (arith, e, h))) (λ _ _ e. absurd (omega (arith, e, h)))
 
   -- "A write of a different Mode also sets Setpoint to 0"
   setpoint_0 : row ≡ Mode → get_or p Mode 0 ≢ w → (told (applied row w p) (with_sum 0 q) Setpoint).word ≡ 0
@@ -103,21 +96,20 @@ module _ (c : Card) (sound : Sound c) (d : Card) (then : Sound d) (row w : ℕ) 
   pub wrote : WriteLeaves c (record { row = record { 0 = row }; word = w }) d
   wrote =
       record {
-        stored = tells_word d then row w (λ e. omega (arith, e, low)) (told_then row w (stores_told p (with_sum 0 q) row w sound.plant.sized low));
-        setpoint = λ k. tells_word d then Setpoint 0 (λ e. omega (arith, e)) (told_then Setpoint 0 (setpoint_0 k.0 k.1));
-        scmd = λ k. tells_word d then SCMD 0 (λ e. omega (arith, e)) (told_then SCMD 0 (scmd_0 k.0 k.1));
+        stored = tells_word d then row w (told_then row w (stores_told p (with_sum 0 q) row w sound.plant.sized low));
+        setpoint = λ k. tells_word d then Setpoint 0 (told_then Setpoint 0 (setpoint_0 k.0 k.1));
+        scmd = λ k. tells_word d then SCMD 0 (told_then SCMD 0 (scmd_0 k.0 k.1));
         others = λ n k.
-            unchanged c d sound then n k.own.3
+            unchanged c d sound then n
             (told_then n _
             (told_same p (applied row w p) q (with_sum 0 q) n k.own.0 k.own.1
-            (λ _. leaves p row w n plain k.other k.own.2 (λ e x z. k.setpoint (e, x) z) (λ e x z. k.scmd (e, x) z)) (λ _. sioerr_stays q sound.numbers)));
+            (λ _. leaves p row w n k.other k.own.2 (λ e x z. k.setpoint (e, x) z) (λ e x z. k.scmd (e, x) z)) (λ _. sioerr_stays q sound.numbers)));
         stays =
             record {
               protocol = ap protocol port ∙ get_or-set_other q Sum ProtocolAt 0 0 (λ e. absurd (omega (arith, e)));
               station = number_stays Station (omega arith);
               din1 = number_stays DIN1 (omega arith);
               causes = number_stays Causes (omega arith);
-              method = number_stays MethodAt (omega arith);
               identity = who;
             };
         flags = number_stays Flags (omega arith);
@@ -170,9 +162,9 @@ module _ (c : Card) (sound : Sound c) (d : Card) (then : Sound d) (only_one : fl
         nfo = serial;
         command = refl;
         only_14 = only_one;
-        sioerr = tells_word d then SioErr 0 (λ e. omega (arith, e)) (ap (λ (t : Told). t.word) (tells_sioerr d.plant d.port.numbers) ∙ ap sioerr port ∙ sioerr_0 q₀ sound.numbers);
+        sioerr = tells_word d then SioErr 0 (ap (λ (t : Told). t.word) (tells_sioerr d.plant d.port.numbers) ∙ ap sioerr port ∙ sioerr_0 q₀ sound.numbers);
         others = λ n k status.
-            unchanged c d sound then n status.3
+            unchanged c d sound then n
             (told_same p₀ d.plant q₀ d.port.numbers n status.0 status.1 (λ l. at_stop n (λ e. absurd (omega (arith, e, l))) status.2) (λ e. absurd (k e)));
         stays =
             record {
@@ -182,83 +174,10 @@ module _ (c : Card) (sound : Sound c) (d : Card) (then : Sound d) (only_one : fl
               station = at_stop Station (λ e. absurd (omega (arith, e))) (λ e. absurd (omega (arith, e)));
               din1 = at_stop DIN1 (λ e. absurd (omega (arith, e))) (λ e. absurd (omega (arith, e)));
               causes = at_stop Causes (λ e. absurd (omega (arith, e))) (λ e. absurd (omega (arith, e)));
-              method = at_stop MethodAt (λ e. absurd (omega (arith, e))) (λ e. absurd (omega (arith, e)));
               identity = who;
             };
         flags = ap flags plant ∙ flags_0;
         sum = ap sum port ∙ sum_0 (with_sioerr 0 q₀) (length-set q₀ Sioerr 0 ∙ sound.numbers);
-      }
-
--- ---- Drive Control or its mask was written
--- the two rows stand past SCMD, so that a write of them is what its word says
-control_applied : (row w : ℕ) (p : Plant) → is_control row ≡ true → applied row w p ≡ steered (control_word p row w) p
-unfolding applied applied_past is_control
-control_applied row w p is = rw (lt-ltb SCMD row (past (either_out (eqb row Drive-Control) (eqb row Control-Mask) is)), is)
-  where
-    past : (eqb row Drive-Control ≡ true) ⊎ (eqb row Control-Mask ≡ true) → SCMD < row
-    past (inl e) = omega (arith, eqb-true row Drive-Control e)
-    past (inr e) = omega (arith, eqb-true row Control-Mask e)
-
-module _ (c : Card) (sound : Sound c) (d : Card) (then : Sound d) (row w : ℕ) (is : is_control row ≡ true) (bits : by_bits c.plant ≡ true) (plant : d.plant ≡ applied row w c.plant)
-    (port : d.port.numbers ≡ with_sum 0 c.port.numbers) (who : d.identity ≡ c.identity) where
-  abbrev p₁ : Plant
-  p₁ = c.plant
-
-  abbrev q₁ : Numbers
-  q₁ = c.port.numbers
-
-  abbrev word : ℕ
-  word = control_word p₁ row w
-
-  plant_is : d.plant ≡ steered word p₁
-  plant_is = plant ∙ control_applied row w p₁ is
-
-  number_is : (n : ℕ) → n ≢ MODE → n ≢ Drive-Control → n ≢ Drive-Status → n ≢ Flags → get_or d.plant n 0 ≡ get_or p₁ n 0
-  number_is n m k s f = ap (λ (x : Plant). get_or x n 0) plant_is ∙ steered_other word p₁ n m k s f
-
-  -- a number behind the rows, but for the flags
-  behind : (n : ℕ) → row_count ≤ n → n ≢ Flags → get_or d.plant n 0 ≡ get_or p₁ n 0
-  behind n h = number_is n (λ e. omega (arith, e, h)) (λ e. omega (arith, e, h)) (λ e. omega (arith, e, h))
-
-  mode_is : (m : ℕ) → mode_by word ≡ m → Tells d MODE m
-  mode_is m e =
-      tells_own d then MODE m (omega arith) (λ z. omega (arith, z)) (λ z. omega (arith, z)) (λ z. omega (arith, z)) (λ z. omega (arith, z))
-      (ap (λ (x : Plant). get_or x MODE 0) plant_is ∙ steered_mode word p₁ sound.plant.sized ∙ e)
-
-  flags_are : flags d.plant ≡ pick (is_set Acknowledge word) (bit_and (flags p₁) (bit_or (causes p₁) (only 14))) (flags p₁)
-  flags_are = ap flags plant_is ∙ steered_flags word p₁ sound.plant.sized
-
-  pub controlled_is : ControlLeaves c (record { row = record { 0 = row }; word = w }) d
-  unfolding control_word masked without mode_by by_bits
-  controlled_is =
-      record {
-        by_bits_lem = eqb-true (method p₁) 2 bits;
-        word = word;
-        direct = λ e. rw e;
-        mask = λ e k. rw e (masks.joined k (bit_and (control p₁) (w % 0x10000)) (w / 0x10000) ∙ ap (λ (t : Bool). either t (flagged k (w / 0x10000))) (masks.common k (control p₁) (w % 0x10000)));
-        told = bit_and word (all_but Acknowledge);
-        without_7 = λ k h. taken_out word Acknowledge k (omega arith) h;
-        stored =
-            tells_own d then Drive-Control _ (omega arith) (λ z. omega (arith, z)) (λ z. omega (arith, z)) (λ z. omega (arith, z)) (λ z. omega (arith, z))
-            (ap control plant_is ∙ steered_control word p₁ sound.plant.sized);
-        bus = λ e. mode_is 3 (rw e);
-        manual = λ e. mode_is 1 (rw e);
-        acknowledged = λ e k l.
-            ap (flagged k) (flags_are ∙ rw e) ∙ masks.common k (flags p₁) (bit_or (causes p₁) (only 14)) ∙ ap (both (flagged k (flags p₁))) (put_in (causes p₁) 14 k (omega arith) l);
-        unacknowledged = λ e. flags_are ∙ rw e;
-        others = λ n k m own.
-            unchanged c d sound then n own.3
-            (told_same p₁ d.plant q₁ d.port.numbers n own.0 own.1 (λ l. number_is n m k own.2 (λ e. omega (arith, e, l))) (λ _. ap sioerr port ∙ sioerr_stays q₁ sound.numbers));
-        stays =
-            record {
-              protocol = ap protocol port ∙ get_or-set_other q₁ Sum ProtocolAt 0 0 (λ e. absurd (omega (arith, e)));
-              station = behind Station (omega arith) (λ e. omega (arith, e));
-              din1 = behind DIN1 (omega arith) (λ e. omega (arith, e));
-              causes = behind Causes (omega arith) (λ e. omega (arith, e));
-              method = behind MethodAt (omega arith) (λ e. omega (arith, e));
-              identity = who;
-            };
-        sum = ap sum port ∙ sum_0 q₁ sound.numbers;
       }
 
 -- ---- a row was told

@@ -7,8 +7,6 @@ use Rattle.demands.proofs.Reached.{reached}
 use Rattle.demands.proofs.Silence.{silence_stops}
 use Rattle.demands.proofs.Effects.{effects}
 use Rattle.demands.proofs.Status.{status_kept}
-use Rattle.demands.proofs.Steps.{no_step_skipped}
-use Rattle.demands.proofs.Unmoved.{unmoved}
 use Rattle.demands.proofs.Demand2.{demand_2}
 use Rattle.demands.proofs.Identity.{who_are_you}
 use Rattle.demands.proofs.Letters.{letters}
@@ -25,8 +23,6 @@ demands =
       silence = silence_stops;
       effects = effects;
       status = status_kept;
-      steps = no_step_skipped;
-      unmoved = unmoved;
       demand_2 = demand_2;
       identity = who_are_you;
       letters = letters;

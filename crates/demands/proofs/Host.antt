@@ -1,23 +1,19 @@
 -- Start, restart and the host's events do what document 01 says of them. Assumes nothing.
-use mathlib.Core.Path.{◌≡◌, refl, ap, ◌∙◌}
+use mathlib.Core.Path.{◌≡◌, refl, ◌∙◌}
 use mathlib.Core.Logic.{◌≢◌}
-use mathlib.Core.Bool.{true, not}
+use mathlib.Core.Bool.{true}
 use Prim.Native.Nat.{ℕ, ◌+◌, ◌≤◌, ◌<◌}
 use native.Mathlib.Omega.{arith}
 use borrow.Author.Tests.{eq-eqb, ne_eqb, lt-ltb, le-ltb}
 use lib.Bits.{bit_or, bit_and}
-use lib.Dec.{eqb}
-use lib.ListN.{get_or, length-set}
+use lib.ListN.{length, get_or, length-set}
 use lib.Seq.{get_or-set_same, get_or-set_other}
-use Rattle.base.specs.Choice.{both}
-use Rattle.table.specs.Names.{SiAdr, SioTot, MbAdr, MODE, SCMD, Drive-Status, Drive-Control}
+use Rattle.table.specs.Names.{SiAdr, SioTot, MbAdr, MODE, SCMD, Drive-Status, row_count}
 use Rattle.table.specs.Table.{rows, start_words}
 use Rattle.port.specs.Port.{sum, sioerr}
 use Rattle.drive.specs.Plant as Plants
-use Rattle.drive.specs.Plant.{Plant, Sized, DIN1, Flags, Station, si_adr, mode, control, causes, flags, with_si_adr, with_mode, with_scmd, with_control, with_din1, with_flags, with_station}
-use Rattle.drive.specs.declared.plant.Method.{Method}
-use Rattle.drive.specs.Flags.{flagged, only, all_but}
-use Rattle.drive.specs.Bits.{without, disabled, switched_off}
+use Rattle.drive.specs.Plant.{Plant, Sized, Flags, Station, si_adr, mode, causes, flags, with_si_adr, with_mode, with_scmd, with_flags, with_station}
+use Rattle.drive.specs.Flags.{only, all_but}
 use Rattle.drive.specs.Status.{righted}
 use Rattle.drive.specs.Faults.{halted, flag_raised}
 use Rattle.drive.specs.Events as Drive
@@ -37,17 +33,8 @@ use Rattle.demands.specs.Host.{RaisesFlag, PortFaultLeaves, AtStart, AfterRestar
 
 -- ---- faults
 flag_raised_lem : (n : ℕ) (p : Plant) → n < 32 → RaisesFlag n p (flag_raised (only n) p)
-unfolding flag_raised halted disabled without
-flag_raised_lem n p small =
-    record {
-      flags_then = bit_or (flags p) (only n);
-      raised = λ k. put_in (flags p) n k small;
-      off = bit_and (control p) (all_but 0);
-      switched_off_lem = λ k. taken_out (control p) 0 k (omega arith);
-      word = bit_and (bit_and (control p) (all_but 0)) (all_but 3);
-      disabled = λ k. taken_out (bit_and (control p) (all_but 0)) 3 k (omega arith);
-      all = refl;
-    }
+unfolding flag_raised halted
+flag_raised_lem n p small = (bit_or (flags p) (only n), λ k. put_in (flags p) n k small, refl)
 
 raise : (n : ℕ) (c : Card) → is_fault n ≡ true
     → (p : Plant) × RaisesFlag n c.plant p × ((x : ℕ) × PutIn n (causes c.plant) x × ((fault_raised n c).card ≡ with_plant (Plants.with_causes x p) c))
@@ -96,11 +83,11 @@ module _ (n : ℕ) (c : Card) (h : Within 1 250 n) where
   tick_above e l = rw (counts, ne_eqb (get_or c.plant SioTot 0) 0 e, lt-ltb (get_or c.plant SioTot 0) (sum c.port.numbers + n) l) (port_fault_lem 0 (card_sum 0 c) (omega arith))
 
 -- ---- start and restart
-start : (protocol : Protocols.Protocol) (m : Method) (i : Identity) → AtStart protocol m (started protocol m i)
+start : (protocol : Protocols.Protocol) (i : Identity) → AtStart protocol (started protocol i)
 unfolding started Plants.started start_words rows
-start protocol m i = record { speaks = refl; pending = held_empty; sum = refl; din1 = refl; causes = refl; flags = refl; method = refl }
+start protocol i = record { speaks = refl; pending = held_empty; sum = refl; din1 = refl; causes = refl; flags = refl }
 
--- ---- a restart sets six numbers, one after the other, and then the word is made right
+-- ---- a restart sets five numbers, one after the other, and then the word is made right
 module _ (c : Card) (sized : Sized c.plant) where
   abbrev p : Plant
   p = c.plant
@@ -114,56 +101,46 @@ module _ (c : Card) (sized : Sized c.plant) where
   abbrev reflagged : Plant
   reflagged = with_flags (causes p) addressed
 
-  abbrev cleared : Plant
-  cleared = with_control 0 reflagged
-
   abbrev halts : Plant
-  halts = with_scmd 0 cleared
+  halts = with_scmd 0 reflagged
 
-  ours_long : Sized ours
+  ours_long : length ours ≡ row_count + 4
   ours_long = length-set p Station (get_or p MbAdr 0) ∙ sized
 
-  addressed_long : Sized addressed
+  addressed_long : length addressed ≡ row_count + 4
   addressed_long = length-set ours SiAdr (healed (si_adr p)) ∙ ours_long
 
-  reflagged_long : Sized reflagged
+  reflagged_long : length reflagged ≡ row_count + 4
   reflagged_long = length-set addressed Flags (causes p) ∙ addressed_long
-
-  cleared_long : Sized cleared
-  cleared_long = length-set reflagged Drive-Control 0 ∙ reflagged_long
 
   abbrev after : Plant
   after = righted (with_mode 1 halts)
 
-  -- a number that is none of the last three, four or five
-  past_scmd : (i : ℕ) → i ≢ MODE → i ≢ SCMD → i ≢ Drive-Status → get_or after i 0 ≡ get_or cleared i 0
-  past_scmd i m s w = righted_other (with_mode 1 halts) i w ∙ get_or-set_other halts MODE i 1 0 m ∙ get_or-set_other cleared SCMD i 0 0 s
+  -- a number that is none of the last three, or four
+  past : (i : ℕ) → i ≢ MODE → i ≢ SCMD → i ≢ Drive-Status → get_or after i 0 ≡ get_or reflagged i 0
+  past i m s w = righted_other (with_mode 1 halts) i w ∙ get_or-set_other halts MODE i 1 0 m ∙ get_or-set_other reflagged SCMD i 0 0 s
 
-  past : (i : ℕ) → i ≢ MODE → i ≢ SCMD → i ≢ Drive-Status → i ≢ Drive-Control → get_or after i 0 ≡ get_or reflagged i 0
-  past i m s w k = past_scmd i m s w ∙ get_or-set_other reflagged Drive-Control i 0 0 k
-
-  past_flags : (i : ℕ) → i ≢ MODE → i ≢ SCMD → i ≢ Flags → i ≢ Drive-Status → i ≢ Drive-Control → get_or after i 0 ≡ get_or addressed i 0
-  past_flags i m s f w k = past i m s w k ∙ get_or-set_other addressed Flags i (causes p) 0 f
+  past_flags : (i : ℕ) → i ≢ MODE → i ≢ SCMD → i ≢ Flags → i ≢ Drive-Status → get_or after i 0 ≡ get_or addressed i 0
+  past_flags i m s f w = past i m s w ∙ get_or-set_other addressed Flags i (causes p) 0 f
 
   pub restarted_address : si_adr (restarted c).plant ≡ healed (si_adr p)
   unfolding restarted Drive.restarted
   restarted_address =
-      past_flags SiAdr (λ e. absurd (omega (arith, e))) (λ e. absurd (omega (arith, e))) (λ e. absurd (omega (arith, e))) (λ e. absurd (omega (arith, e))) (λ e. absurd (omega (arith, e)))
+      past_flags SiAdr (λ e. absurd (omega (arith, e))) (λ e. absurd (omega (arith, e))) (λ e. absurd (omega (arith, e))) (λ e. absurd (omega (arith, e)))
       ∙ get_or-set_same ours SiAdr (healed (si_adr p)) 0 (omega (arith, ours_long))
 
   restart : AfterRestart c (restarted c)
   unfolding restarted Drive.restarted
   restart =
       record {
-        keeps = λ i a m s f o w k. past_flags i m s f w k ∙ get_or-set_other ours SiAdr i (healed (si_adr p)) 0 a ∙ get_or-set_other p Station i (get_or p MbAdr 0) 0 o;
+        keeps = λ i a m s f o w. past_flags i m s f w ∙ get_or-set_other ours SiAdr i (healed (si_adr p)) 0 a ∙ get_or-set_other p Station i (get_or p MbAdr 0) 0 o;
         healed = λ h. restarted_address ∙ healed_these (si_adr p) h;
         address = λ n m. restarted_address ∙ healed_others (si_adr p) n m;
-        flags = past Flags (λ e. absurd (omega (arith, e))) (λ e. absurd (omega (arith, e))) (λ e. absurd (omega (arith, e))) (λ e. absurd (omega (arith, e))) ∙ get_or-set_same addressed Flags (causes p) 0 (omega (arith, addressed_long));
-        mode = righted_other (with_mode 1 halts) MODE (λ e. absurd (omega (arith, e))) ∙ get_or-set_same halts MODE 1 0 (omega (arith, length-set cleared SCMD 0, cleared_long));
-        scmd = righted_other (with_mode 1 halts) SCMD (λ e. absurd (omega (arith, e))) ∙ get_or-set_other halts MODE SCMD 1 0 (λ e. absurd (omega (arith, e))) ∙ get_or-set_same cleared SCMD 0 0 (omega (arith, cleared_long));
-        control = past_scmd Drive-Control (λ e. absurd (omega (arith, e))) (λ e. absurd (omega (arith, e))) (λ e. absurd (omega (arith, e))) ∙ get_or-set_same reflagged Drive-Control 0 0 (omega (arith, reflagged_long));
+        flags = past Flags (λ e. absurd (omega (arith, e))) (λ e. absurd (omega (arith, e))) (λ e. absurd (omega (arith, e))) ∙ get_or-set_same addressed Flags (causes p) 0 (omega (arith, addressed_long));
+        mode = righted_other (with_mode 1 halts) MODE (λ e. absurd (omega (arith, e))) ∙ get_or-set_same halts MODE 1 0 (omega (arith, length-set reflagged SCMD 0, reflagged_long));
+        scmd = righted_other (with_mode 1 halts) SCMD (λ e. absurd (omega (arith, e))) ∙ get_or-set_other halts MODE SCMD 1 0 (λ e. absurd (omega (arith, e))) ∙ get_or-set_same reflagged SCMD 0 0 (omega (arith, reflagged_long));
         station =
-            past_flags Station (λ e. absurd (omega (arith, e))) (λ e. absurd (omega (arith, e))) (λ e. absurd (omega (arith, e))) (λ e. absurd (omega (arith, e))) (λ e. absurd (omega (arith, e)))
+            past_flags Station (λ e. absurd (omega (arith, e))) (λ e. absurd (omega (arith, e))) (λ e. absurd (omega (arith, e))) (λ e. absurd (omega (arith, e)))
             ∙ get_or-set_other ours SiAdr Station (healed (si_adr p)) 0 (λ e. absurd (omega (arith, e))) ∙ get_or-set_same p Station (get_or p MbAdr 0) 0 (omega (arith, sized));
         speaks = refl;
         pending = held_emptied c.port.pending;
@@ -172,7 +149,7 @@ module _ (c : Card) (sized : Sized c.plant) where
       }
 
 pub host : Host
-unfolding din1_set with_active switched switched_off without measured_set with_measured
+unfolding din1_set with_active switched measured_set with_measured
 host =
     record {
       start = start;
@@ -180,7 +157,7 @@ host =
       raise = raise;
       end = end;
       active = λ c. refl;
-      inactive = λ c. (bit_and (control (with_din1 0 c.plant)) (all_but 0), λ k h. taken_out (control (with_din1 0 c.plant)) 0 k (omega arith) h ∙ ap (λ (x : ℕ). both (flagged k x) (not (eqb k 0))) (get_or-set_other c.plant DIN1 Drive-Control 0 0 (λ e. absurd (omega (arith, e)))), refl);
+      inactive = λ c. refl;
       frq_act = λ w c. refl;
       i_rms = λ w c. refl;
       op_time = λ w c. refl;

@@ -17,8 +17,7 @@ use Rattle.identity.specs.Identity.{Identity}
 use Rattle.port.specs.Port.{Numbers, ProtocolAt, Sum, Sioerr, protocol, sum, with_sum, with_sioerr}
 use Rattle.drive.specs.Plant.{Plant}
 use Rattle.drive.specs.Plant as Plants
-use Rattle.drive.specs.declared.plant.Method.{Method}
-use Rattle.drive.specs.Bits.{by_bits}
+use Rattle.drive.specs.Status.{flag_stands}
 use Rattle.drive.specs.Faults.{without14, stopped}
 use Rattle.drive.specs.Events.{raised, ended, with_active, with_measured}
 use Rattle.drive.specs.declared.events.Measured.{Measured}
@@ -63,11 +62,9 @@ use Rattle.rtu.specs.Rtu.{frame_holds, address_in, unit_in}
 use Rattle.ascii_port.specs.Receive.{ascii_stream, ascii_received}
 use Rattle.receive.specs.Receive.{received}
 use Rattle.demands.specs.Calls.{Step, receive, restart, raise, end, din1, measure, parity, tick}
-use Rattle.demands.specs.Kept.{SoundPlant, SoundPending, SoundIdentity, Controlled, Sound, Kept}
+use Rattle.demands.specs.Kept.{SoundPlant, SoundPending, SoundIdentity, Sound, Kept}
 use Rattle.demands.proofs.Serving.{nfo_each, modbus_each}
 use Rattle.demands.proofs.Each.{each_tick, step_identity}
-use Rattle.demands.proofs.Changes.{step_keeps}
-use Rattle.demands.proofs.Controlled.{controlled, controlled_start, control_kept}
 use Rattle.demands.proofs.Addressed.{healed_never, step_own}
 use Rattle.demands.proofs.Host.{restarted_address}
 use Rattle.demands.proofs.KeptPlant.{Fits, acknowledged_keeps, without14_keeps, stopped_keeps, applied_keeps, raised_keeps, ended_keeps, active_keeps, measured_keeps, fault_keeps, restarted_keeps, started_sound}
@@ -104,7 +101,7 @@ restarts n k plant port = ((plant, λ _. sum_0 n k.port port), sum_set n 0 k.por
 abbrev left_by : Served → Core
 left_by s = record { port = port_after s.answer s.port; plant = s.plant }
 
-module _ (n : ℕ) (p : Plant) (q : Numbers) (old : SoundCore n (record { port = q; plant = p })) (idle : by_bits p ≡ true → Plants.scmd p ≡ 0) where
+module _ (n : ℕ) (p : Plant) (q : Numbers) (old : SoundCore n (record { port = q; plant = p })) where
   abbrev Leaves : Served → Type 0
   Leaves s = SoundCore n (left_by s)
 
@@ -141,10 +138,10 @@ module _ (n : ℕ) (p : Plant) (q : Numbers) (old : SoundCore n (record { port =
   wrote_leaves row w =
       pick_both After (read_only row) (λ _. again)
       (λ _. pick_both After (not (allowed p row w)) (λ _. again)
-      (λ can. pick_both After (Refusals.flag_holds p row w) (λ _. again)
-      (λ free. pick_both After (Refusals.init_running p row) (λ _. again)
+      (λ can. pick_both After (flag_stands p) (λ _. again)
+      (λ calm. pick_both After (Refusals.init_running p row) (λ _. again)
       (λ _. pick_both After (not (permitted p row w)) (λ _. again)
-      (λ may. (applied_keeps (with_sum 0 q) (sum_0 n q old.1) p again.0 idle row w (not-false (allowed p row w) can) free (not-false (permitted p row w) may), again.1))))))
+      (λ may. (applied_keeps (with_sum 0 q) (sum_0 n q old.1) p again.0 row w (not-false (allowed p row w) can) calm (not-false (permitted p row w) may), again.1))))))
     where
       After : Permit → Type 0
       After x = Leaves (record { plant = after x p; port = q; answer = Serving.permitted x })
@@ -173,25 +170,21 @@ nfo_pending c x speaks size begun = record { sized = size; nfo = λ _. begun; rt
 ascii_pending : (c : Card) (x : Pending) → protocol_of c ≡ 2 → Sized x → ascii.viable (held x) ≡ true → SoundPending (with_pending x c)
 ascii_pending c x speaks size begun = record { sized = size; nfo = λ e. absurd (omega (arith, speaks, e)); rtu = λ e. absurd (omega (arith, speaks, e)); ascii = λ _. begun }
 
--- ---- a card that is sound where the rules of control by bits hold: that they do is shown beside this, of any card (`Controlled`)
-abbrev Keeps : Card → Type 0
-Keeps d = Controlled d.plant → Sound d
-
--- a card of its parts, after a sound one of the same protocol and the same identity
-sound : (c d : Card) → Sound c → SoundCore (protocol_of c) (core_of d) → SoundPending d → d.identity ≡ c.identity → Keeps d
-sound c d old ((plant, sum), (numbers, same)) pending who control =
-    record { plant = plant; pending = pending; numbers = numbers; protocol = rw same old.protocol; sum = sum; identity = rw who old.identity; control = control }
+-- ---- a card of its parts, after a sound one of the same protocol and the same identity
+sound : (c d : Card) → Sound c → SoundCore (protocol_of c) (core_of d) → SoundPending d → d.identity ≡ c.identity → Sound d
+sound c d old ((plant, sum), (numbers, same)) pending who =
+    record { plant = plant; pending = pending; numbers = numbers; protocol = rw same old.protocol; sum = sum; identity = rw who old.identity }
 
 -- the parts of a sound card
 core_in : (c : Card) → Sound c → SoundCore (protocol_of c) (core_of c)
 core_in c old = ((old.plant, old.sum), (old.numbers, refl))
 
 -- what is pending stays
-core_keeps : (c : Card) (k : Core) → Sound c → SoundCore (protocol_of c) k → Keeps (with_core k c)
+core_keeps : (c : Card) (k : Core) → Sound c → SoundCore (protocol_of c) k → Sound (with_core k c)
 core_keeps c k old core = sound c (with_core k c) old core (same_pending c k core.1.1 old.pending) refl
 
 -- the plant alone changes
-plant_keeps : (change : Plant → Plant) → ((q : Numbers) (p : Plant) → Fits q p → Fits q (change p)) → (c : Card) → Sound c → Keeps (State.with_plant (change c.plant) c)
+plant_keeps : (change : Plant → Plant) → ((q : Numbers) (p : Plant) → Fits q p → Fits q (change p)) → (c : Card) → Sound c → Sound (State.with_plant (change c.plant) c)
 plant_keeps change keeps c old =
     core_keeps c (record { port = c.port.numbers; plant = change c.plant }) old (keeps c.port.numbers c.plant (old.plant, old.sum), (core_in c old).1)
 
@@ -203,23 +196,19 @@ module _ (c : Card) (old : Sound c) where
   abbrev Serves : Served → Type 0
   Serves s = SoundCore n (left_by s)
 
-  abbrev Leads : Received → Type 0
-  Leads r = Keeps r.card
-
-  -- by bits SCMD is 0
-  idle : by_bits c.plant ≡ true → Plants.scmd c.plant ≡ 0
-  idle bits = (old.control.by_bits_lem bits).scmd
+  abbrev Keeps : Received → Type 0
+  Keeps r = Sound r.card
 
   -- a message served on this card
   nfo_serves : (m : Message) → Serves (NfoServe.served c.plant c.port.numbers m)
-  nfo_serves = nfo_leaves n c.plant c.port.numbers (core_in c old) idle
+  nfo_serves = nfo_leaves n c.plant c.port.numbers (core_in c old)
 
   modbus_serves : (a : ℕ) (u : List ℕ) → Serves (exchanged c.plant c.port.numbers a u).served
   unfolding exchanged
-  modbus_serves = modbus_leaves n c.plant c.port.numbers (core_in c old) idle
+  modbus_serves = modbus_leaves n c.plant c.port.numbers (core_in c old)
 
   -- "what is pending after a taken message is empty"
-  after_keeps : (x : Pending) (s : Served) → Sized x → Serves s → Keeps (card_after c.identity x s)
+  after_keeps : (x : Pending) (s : Served) → Sized x → Serves s → Sound (card_after c.identity x s)
   unfolding card_after
   after_keeps x s size left =
       let d : Card = card_after c.identity x s in
@@ -228,54 +217,54 @@ module _ (c : Card) (old : Sound c) where
   module _ (bytes : List ℕ) (room : ℕ) where
     -- a scan takes a message, or leaves a beginning
     stream_keeps : (F : Format) (S : Stream) → Lawful F → Follows F S.feeding → F.viable (held c.port.pending) ≡ true
-        → ((x : Pending) → Sized x → F.viable (held x) ≡ true → SoundPending (with_pending x c)) → ((x : Pending) → Serves (S.served c x)) → Leads (streamed S c bytes room)
+        → ((x : Pending) → Sized x → F.viable (held x) ≡ true → SoundPending (with_pending x c)) → ((x : Pending) → Serves (S.served c x)) → Keeps (streamed S c bytes room)
     unfolding waiting
     stream_keeps F S L W begun waits serves =
         let scan : Scan = scan_from S.feeding c.port.pending 0 bytes in
         let size : Sized scan.pending = scan_sized F L S.feeding W bytes c.port.pending 0 old.pending.sized in
         let left = scan_leaves F L S.feeding W bytes c.port.pending 0 old.pending.sized begun in
-        pick_both Leads (ltb room S.least) (λ _ _. old)
-        (λ _. pick_both Leads scan.taken (λ _. after_keeps scan.pending (S.served c scan.pending) size (serves scan.pending))
+        pick_both Keeps (ltb room S.least) (λ _. old)
+        (λ _. pick_both Keeps scan.taken (λ _. after_keeps scan.pending (S.served c scan.pending) size (serves scan.pending))
         (λ e. sound c (with_pending scan.pending c) old (core_in c old) (waits scan.pending size (left.1 e)) refl))
 
     -- a frame is taken, or changes nothing
-    rtu_keeps : Leads (rtu_received c bytes room)
+    rtu_keeps : Keeps (rtu_received c bytes room)
     unfolding rtu_received
     rtu_keeps =
-        pick_both Leads (ltb room rtu_least) (λ _ _. old)
-        (λ _. pick_both Leads (frame_holds bytes) (λ _. after_keeps c.port.pending _ old.pending.sized (modbus_serves (address_in bytes) (unit_in bytes))) (λ _ _. old))
+        pick_both Keeps (ltb room rtu_least) (λ _. old)
+        (λ _. pick_both Keeps (frame_holds bytes) (λ _. after_keeps c.port.pending _ old.pending.sized (modbus_serves (address_in bytes) (unit_in bytes))) (λ _. old))
 
     -- a stream by its format
-    ascii_keeps : n ≡ 2 → Leads (ascii_received c bytes room)
+    ascii_keeps : n ≡ 2 → Keeps (ascii_received c bytes room)
     unfolding ascii_received
     ascii_keeps e = stream_keeps ascii ascii_stream ascii_lawful ascii_follows (old.pending.ascii e) (λ x. ascii_pending c x e) (λ x. modbus_serves _ _)
 
-    nfo_keeps : n ≡ 0 → Leads (nfo_received c bytes room)
+    nfo_keeps : n ≡ 0 → Keeps (nfo_received c bytes room)
     unfolding nfo_received
     nfo_keeps e = stream_keeps nfo nfo_stream nfo_lawful nfo_follows (old.pending.nfo e) (λ x. nfo_pending c x e) (λ x. nfo_serves _)
 
     -- by the number in the port
-    receive_keeps : Leads (received c bytes room)
+    receive_keeps : Keeps (received c bytes room)
     unfolding received
     receive_keeps =
-        pick_both Leads (eqb n 1) (λ _. rtu_keeps)
-        (λ r. pick_both Leads (eqb n 2) (λ a. ascii_keeps (eqb-true n 2 a)) (λ a. nfo_keeps (omega (arith, eqb-false n 1 r, eqb-false n 2 a, old.protocol))))
+        pick_both Keeps (eqb n 1) (λ _. rtu_keeps)
+        (λ r. pick_both Keeps (eqb n 2) (λ a. ascii_keeps (eqb-true n 2 a)) (λ a. nfo_keeps (omega (arith, eqb-false n 1 r, eqb-false n 2 a, old.protocol))))
 
 -- ---- the host's events
 -- of the plant alone
-raise_keeps : (n : ℕ) (c : Card) → Sound c → Keeps (Events.fault_raised n c).card
+raise_keeps : (n : ℕ) (c : Card) → Sound c → Sound (Events.fault_raised n c).card
 unfolding Events.fault_raised Events.event_on
 raise_keeps n = plant_keeps (λ p. (raised n p).plant) (λ q. raised_keeps q n)
 
-end_keeps : (n : ℕ) (c : Card) → Sound c → Keeps (Events.cause_ended n c).card
+end_keeps : (n : ℕ) (c : Card) → Sound c → Sound (Events.cause_ended n c).card
 unfolding Events.cause_ended Events.event_on
 end_keeps n = plant_keeps (λ p. (ended n p).plant) (λ q. ended_keeps q n)
 
-din1_keeps : (active : Bool) (c : Card) → Sound c → Keeps (Events.din1_set active c).card
+din1_keeps : (active : Bool) (c : Card) → Sound c → Sound (Events.din1_set active c).card
 unfolding Events.din1_set
 din1_keeps active = plant_keeps (with_active active) (λ q. active_keeps q active)
 
-measure_keeps : (measured : Measured) (c : Card) → Sound c → Keeps (Events.measured_set measured c).card
+measure_keeps : (measured : Measured) (c : Card) → Sound c → Sound (Events.measured_set measured c).card
 unfolding Events.measured_set
 measure_keeps measured = plant_keeps (with_measured measured) (λ q. measured_keeps q measured)
 
@@ -286,12 +275,12 @@ fault_leaves n bit k (fits, port) =
     let then = fault_keeps k.port k.plant fits in
     ((then.0, λ z. get_or-set_other k.port Sioerr Sum _ 0 (λ e. omega (arith, e)) ∙ then.1 z), sioerr_set n _ k.port port)
 
-parity_keeps : (c : Card) → Sound c → Keeps (Events.parity_told c).card
+parity_keeps : (c : Card) → Sound c → Sound (Events.parity_told c).card
 unfolding Events.parity_told
 parity_keeps c old = core_keeps c _ old (fault_leaves (protocol_of c) 2 (core_of c) (core_in c old))
 
 -- "12: host event number not allowed" changes nothing; "While SioTot is 0 the sum is 0": where it counts, SioTot is not 0
-tick_keeps : (tenths : ℕ) (c : Card) → Sound c → Keeps (Events.ticked tenths c).card
+tick_keeps : (tenths : ℕ) (c : Card) → Sound c → Sound (Events.ticked tenths c).card
 unfolding Events.ticked
 tick_keeps tenths c old =
     let (fits, port) = core_in c old in
@@ -301,27 +290,19 @@ tick_keeps tenths c old =
     (λ some. ((fits.0, λ off. absurd (some off)), sum_set (protocol_of c) _ c.port.numbers port)))
 
 -- ---- start and restart: nothing is pending, and the sum is 0
-start_keeps : (protocol : Protocols.Protocol) (m : Method) (i : Identity) → SoundIdentity i → Sound (State.started protocol m i)
+start_keeps : (protocol : Protocols.Protocol) (i : Identity) → SoundIdentity i → Sound (State.started protocol i)
 unfolding State.started
-start_keeps protocol m i given =
-    record {
-      plant = started_sound m;
-      pending = none_pending (State.started protocol m i) sized_empty held_empty;
-      numbers = refl;
-      protocol = most protocol;
-      sum = λ _. refl;
-      identity = given;
-      control = controlled_start m;
-    }
+start_keeps protocol i given =
+    record { plant = started_sound; pending = none_pending (State.started protocol i) sized_empty held_empty; numbers = refl; protocol = most protocol; sum = λ _. refl; identity = given }
   where
     most : (protocol : Protocols.Protocol) → State.protocol_number protocol ≤ 2
     most Nfo = omega arith
     most Rtu = omega arith
     most Ascii = omega arith
 
-restart_keeps : (c : Card) → Sound c → Keeps (State.restarted c)
+restart_keeps : (c : Card) → Sound c → Sound (State.restarted c)
 unfolding State.restarted
-restart_keeps c old control =
+restart_keeps c old =
     record {
       plant = (restarted_keeps c.port.numbers c.plant (core_in c old).0).0;
       pending = none_pending (State.restarted c) (sized_emptied c.port.pending old.pending.sized) (held_emptied c.port.pending);
@@ -329,11 +310,10 @@ restart_keeps c old control =
       protocol = old.protocol;
       sum = λ _. refl;
       identity = old.identity;
-      control = control;
     }
 
 -- ---- so does each routine
-each_keeps : (c d : Card) → Step c d → Sound c → Keeps d
+each_keeps : (c d : Card) → Step c d → Sound c → Sound d
 each_keeps c d (receive bytes room) old = receive_keeps c old bytes room
 each_keeps c d restart old = restart_keeps c old
 each_keeps c d (raise n) old = raise_keeps n c old
@@ -348,8 +328,7 @@ unfolding State.started Plants.started start_words rows
 kept =
     record {
       start = start_keeps;
-      each = λ c d step old. each_keeps c d step old (step_keeps Controlled controlled c d step old.control);
-      identity = record { start = λ protocol m i. refl; each = step_identity };
-      address = record { start = λ protocol m i. (omega arith, omega arith); each = step_own; restart = λ c sized. rw (restarted_address c sized) (healed_never (Plants.si_adr c.plant)) };
-      control = control_kept;
+      each = each_keeps;
+      identity = record { start = λ protocol i. refl; each = step_identity };
+      address = record { start = λ protocol i. (omega arith, omega arith); each = step_own; restart = λ c sized. rw (restarted_address c sized) (healed_never (Plants.si_adr c.plant)) };
     }

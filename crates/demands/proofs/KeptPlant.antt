@@ -3,38 +3,32 @@
 use mathlib.Core.Path.{◌≡◌, refl, sym, ap, subst, ◌∙◌}
 use mathlib.Core.Logic.{◌⊎◌, inl, inr}
 use mathlib.Core.Bool.{Bool, true, false, not, false≢true}
-use Prim.Native.Nat.{ℕ, ◌^◌, ◌≤◌, ◌<◌}
+use Prim.Native.Nat.{ℕ, ◌^◌, ◌<◌}
 use native.Mathlib.Omega.{arith}
-use borrow.Author.Tests.{not-true, not-false, eqb-true, eqb-false, ne_eqb, ltb-true, ltb-false}
+use borrow.Author.Tests.{not-true, not-false, eqb-true, eqb-false, ltb-true, ltb-false}
 use lib.Bits.{bit_or, bit_and, and_zero_l, and_le_l, or_lt}
 use lib.Pow.{pow-lt}
 use lib.Dec.{eqb, ltb}
 use lib.ListN.{length, get_or, set, length-set}
 use lib.Seq.{get_or-set_same, get_or-set_other, set_out, set-get_or, set_comm}
-use Rattle.base.specs.Choice.{both, either}
+use Rattle.base.specs.Choice.{either}
 use Rattle.base.proofs.Tests.{pick_both, both_out, either_out, not_both, below_at}
 use Rattle.table.specs.Table.{rows, start_words}
-use Rattle.table.specs.Names.{SiAdr, SioTot, MbAdr, Mode, Setpoint, MODE, SCMD, FrqAct, I-rms, OpTime, Drive-Status, Drive-Control, Control-Mask}
+use Rattle.table.specs.Names.{SiAdr, SioTot, MbAdr, Mode, Setpoint, MODE, SCMD, FrqAct, I-rms, OpTime, Drive-Status}
 use Rattle.port.specs.Port.{Numbers, sum}
-use Rattle.drive.specs.Plant.{Plant, Sized, DIN1, Causes, Flags, Station, MethodAt, si_adr, mode, scmd, flags, causes, with_si_adr, with_scmd, with_control, with_din1, started}
-use Rattle.drive.specs.declared.plant.Method.{Method}
+use Rattle.drive.specs.Plant.{Plant, Sized, DIN1, Causes, Flags, Station, si_adr, mode, scmd, flags, causes, with_si_adr, with_scmd, started}
 use Rattle.drive.specs.Flags.{flagged, only}
-use Rattle.drive.specs.Bits.{by_bits, is_set, without, Bus, Acknowledge, disabled, switched_off}
 use Rattle.drive.specs.Status.{active, flag_stands, righted}
 use Rattle.drive.specs.Faults.{reflagged, halted, flag_raised, acknowledged, without14, stopped}
 use Rattle.drive.specs.Events.{healed, restarted, is_fault, Event, raised, ended, port_fault, switched, with_active, with_measured}
-use Rattle.drive.specs.Control.{is_control, control_word, mode_by, acknowledged_by, steered}
 use Rattle.drive.specs.declared.events.Measured.{Measured}
 use Rattle.drive.specs.declared.events.Measured.TheVariants.{Frq, Rms, Optime}
 use Rattle.drive.proofs.Laws.{fault_small}
 use Rattle.drive.proofs.Masks.{masks}
 use Rattle.drive.proofs.Flagging.{put_in}
-use Rattle.drive.proofs.Steering.{by_other}
-use Rattle.permit.specs.Refusals.{allowed, flag_holds, commandable, permitted}
-use Rattle.service.specs.Write.{followed, applied_past, applied}
-use Rattle.service.proofs.Stores.{unheld_calm}
+use Rattle.permit.specs.Refusals.{allowed, permitted}
+use Rattle.service.specs.Write.{followed, applied}
 use Rattle.master_reply.specs.Told.{Within}
-use Rattle.demands.proofs.AtName.{Choose, choose, at_name}
 use Rattle.demands.proofs.Allowing.{mb_adr, mode_one, scmd_one}
 use Rattle.demands.specs.Kept.{Command, Commanded, OnlyFaults, OnlyFaultsAnd14, SoundPlant, SumRight}
 
@@ -75,6 +69,25 @@ unfolding is_fault
 14_not_in_0 mask z e = (none_in (λ k. ⊥)).1 14 (omega arith) (sym (ap (flagged 14) z) ∙ e)
 
 -- ---- THE LAW: a number that is right at its name keeps the plant sound
+-- the one where the test holds, else the other
+abbrev Choose : Bool → Type 0 → Type 0 → Type 0
+Choose true A B = A
+Choose false A B = B
+
+-- it is there if each of the two is there in its case
+choose : {A B : Type 0} (t : Bool) → (t ≡ true → A) → (t ≡ false → B) → Choose t A B
+choose true a b = a refl
+choose false a b = b refl
+
+-- the number at the name k, once that at i is v: past the end of the plant nothing is set
+pub at_name : (Q : ℕ → Type 0) (p : Plant) (i k v : ℕ) → Q (get_or p k 0) → (i ≡ k → Q v) → Q (get_or (set p i v) k 0)
+at_name Q p i k v keep right = go (eqb i k) (ltb k (length p)) refl refl
+  where
+    go : (same there : Bool) → eqb i k ≡ same → ltb k (length p) ≡ there → Q (get_or (set p i v) k 0)
+    go false there e t = rw (get_or-set_other p i k v 0 (λ r. eqb-false i k e (sym r))) keep
+    go true true e t = rw (eqb-true i k e, get_or-set_same p k v 0 (ltb-true k (length p) t)) (right (eqb-true i k e))
+    go true false e t = rw (eqb-true i k e, set_out p k v (ltb-false k (length p) t)) keep
+
 -- SCMD is not 0
 abbrev ToldToRun : Plant → Type 0
 ToldToRun p = scmd p ≡ 0 → ⊥
@@ -91,23 +104,22 @@ module _ (q : Numbers) where
   abbrev pub Fits : Plant → Type 0
   Fits p = SoundPlant p × SumRight p q
 
-  -- what the number set at a name must be at any time, where MODE is m and the flags are f: by method 1, 14 stands only at MODE 3. The method is never set
-  abbrev Right : (bits : Bool) (m f : ℕ) → ℕ → ℕ → Type 0
-  Right bits m f i v =
+  -- what the number set at a name must be at any time, where MODE is m and the flags are f: 14 stands only at MODE 3
+  abbrev Right : (m f : ℕ) → ℕ → ℕ → Type 0
+  Right m f i v =
       Choose (ltb SCMD i)
       (Choose (eqb i Causes) (OnlyFaults v)
-      (Choose (eqb i Flags) (OnlyFaultsAnd14 v × (bits ≡ false → flagged 14 v ≡ true → m ≡ 3))
-      (Choose (eqb i Station) (Within 1 247 v) (Choose (eqb i MethodAt) ⊥ (Unit {0})))))
+      (Choose (eqb i Flags) (OnlyFaultsAnd14 v × (flagged 14 v ≡ true → m ≡ 3)) (Choose (eqb i Station) (Within 1 247 v) (Unit {0}))))
       (Choose (eqb i SioTot) (v ≡ 0 → sum q ≡ 0)
       (Choose (eqb i MbAdr) (Within 1 247 v)
-      (Choose (eqb i MODE) (Within 1 3 v × (bits ≡ false → flagged 14 f ≡ true → v ≡ 3)) (Choose (eqb i SCMD) (Command v) (Unit {0})))))
+      (Choose (eqb i MODE) (Within 1 3 v × (flagged 14 f ≡ true → v ≡ 3)) (Choose (eqb i SCMD) (Command v) (Unit {0})))))
 
   abbrev RightIn : Plant → ℕ → ℕ → Type 0
-  RightIn p i v = Right (by_bits p) (mode p) (flags p) i v
+  RightIn p i v = Right (mode p) (flags p) i v
 
   -- one number is set
   set_keeps : (p : Plant) (i v : ℕ) → Fits p → RightIn p i v → Obeys p i v → Fits (set p i v)
-  unfolding active by_bits
+  unfolding active
   set_keeps p i v (keep, total) right obeys = (
     record {
       sized = length-set p i v ∙ keep.sized;
@@ -118,7 +130,7 @@ module _ (q : Numbers) where
       station = at_name (Within 1 247) p i Station v keep.station (is Station);
       causes = at_name OnlyFaults p i Causes v keep.causes (is Causes);
       flags = at_name OnlyFaultsAnd14 p i Flags v keep.flags (λ e. (is Flags e).0);
-      bus = λ off. at_name (λ (x : ℕ). flagged 14 x ≡ true → mode (set p i v) ≡ 3) p i Flags v (stood (sym method_stays ∙ off)) (raised_now (sym method_stays ∙ off));
+      bus = at_name (λ (x : ℕ). flagged 14 x ≡ true → mode (set p i v) ≡ 3) p i Flags v stood raised_now;
     },
     at_name (λ (x : ℕ). x ≡ 0 → sum q ≡ 0) p i SioTot v total (is SioTot),
   )
@@ -126,15 +138,12 @@ module _ (q : Numbers) where
       is : (k : ℕ) → i ≡ k → RightIn p k v
       is k e = subst (λ (x : ℕ). RightIn p x v) e right
 
-      method_stays : by_bits (set p i v) ≡ by_bits p
-      method_stays = ap (λ (x : ℕ). eqb x 2) (get_or-set_other p i MethodAt v 0 (λ e. absurd (is MethodAt (sym e))))
-
       -- 14 stood before, or stands now
-      stood : by_bits p ≡ false → flagged 14 (flags p) ≡ true → mode (set p i v) ≡ 3
-      stood off b = at_name (λ (x : ℕ). x ≡ 3) p i MODE v (keep.bus off b) (λ e. (is MODE e).1 off b)
+      stood : flagged 14 (flags p) ≡ true → mode (set p i v) ≡ 3
+      stood b = at_name (λ (x : ℕ). x ≡ 3) p i MODE v (keep.bus b) (λ e. (is MODE e).1 b)
 
-      raised_now : by_bits p ≡ false → i ≡ Flags → flagged 14 v ≡ true → mode (set p i v) ≡ 3
-      raised_now off e b = at_name (λ (x : ℕ). x ≡ 3) p i MODE v ((is Flags e).1 off b) (λ h. absurd (omega (arith, e, h)))
+      raised_now : i ≡ Flags → flagged 14 v ≡ true → mode (set p i v) ≡ 3
+      raised_now e b = at_name (λ (x : ℕ). x ≡ 3) p i MODE v ((is Flags e).1 b) (λ h. absurd (omega (arith, e, h)))
 
       does : (k : ℕ) → i ≡ k → Obeys p k v
       does k e = subst (λ (x : ℕ). Obeys p x v) e obeys
@@ -171,44 +180,32 @@ module _ (q : Numbers) where
 
   -- so any number that is right may be set where SCMD becomes 0, too
   halted_keeps : (p : Plant) (i v : ℕ) → Fits p → (i ≡ SCMD → ⊥) → RightIn p i v → Fits (with_scmd 0 (set p i v))
-  unfolding by_bits
   halted_keeps p i v keep o right =
       rw (set_comm p i SCMD v 0 o) (set_keeps (with_scmd 0 p) i v (scmd_keeps p keep) still (idle_obeys (with_scmd 0 p) i v (scmd_0 p keep.0.sized) o))
     where
-      -- MODE, the flags and the method are as they were
+      -- MODE and the flags are as they were
       still : RightIn (with_scmd 0 p) i v
       still =
-          subst (λ (m : ℕ). Right (by_bits (with_scmd 0 p)) m (flags (with_scmd 0 p)) i v) (sym (get_or-set_other p SCMD MODE 0 0 (λ h. omega (arith, h))))
-          (subst (λ (f : ℕ). Right (by_bits (with_scmd 0 p)) (mode p) f i v) (sym (get_or-set_other p SCMD Flags 0 0 (λ h. omega (arith, h))))
-          (subst (λ (b : ℕ). Right (eqb b 2) (mode p) (flags p) i v) (sym (get_or-set_other p SCMD MethodAt 0 0 (λ h. omega (arith, h)))) right))
+          subst (λ (m : ℕ). Right m (flags (with_scmd 0 p)) i v) (sym (get_or-set_other p SCMD MODE 0 0 (λ h. omega (arith, h))))
+          (subst (λ (f : ℕ). Right (mode p) f i v) (sym (get_or-set_other p SCMD Flags 0 0 (λ h. omega (arith, h)))) right)
 
   -- ---- flags
-  -- the word that is stored for Drive Control: nothing here asks for it
-  control_keeps : (p : Plant) (x : ℕ) → Fits p → Fits (with_control x p)
-  control_keeps p x keep = set_keeps p Drive-Control x keep tt tt
-
   -- "SCMD becomes 0 when .. a fault flag is raised"
-  with_flag : (p : Plant) (n : ℕ) → n < 32 → FaultOr14 n → (n ≡ 14 → mode p ≡ 3) → Fits p → Fits (halted (bit_or (flags p) (only n)) p)
-  unfolding halted
-  with_flag p n small new at_3 keep =
-      righted_keeps _ (halted_keeps p Flags _ keep (λ h. omega (arith, h))
-      (only_with FaultOr14 (flags p) n small new keep.0.flags, λ off b. go off (either_out (flagged 14 (flags p)) (eqb 14 n) (sym (put_in (flags p) n 14 small (omega arith)) ∙ b))))
-    where
-      go : by_bits p ≡ false → (flagged 14 (flags p) ≡ true) ⊎ (eqb 14 n ≡ true) → mode p ≡ 3
-      go off (inl y) = keep.0.bus off y
-      go off (inr y) = at_3 (sym (eqb-true 14 n y))
-
   raised_flag : (p : Plant) (n : ℕ) → n < 32 → FaultOr14 n → (n ≡ 14 → mode p ≡ 3) → Fits p → Fits (flag_raised (only n) p)
-  unfolding flag_raised disabled
+  unfolding flag_raised halted
   raised_flag p n small new at_3 keep =
-      subst (λ (f : ℕ). Fits (halted (bit_or f (only n)) (disabled p))) (get_or-set_other p Drive-Control Flags _ 0 (λ h. omega (arith, h)))
-      (with_flag (disabled p) n small new (λ e. get_or-set_other p Drive-Control MODE _ 0 (λ h. omega (arith, h)) ∙ at_3 e) (control_keeps p _ keep))
+      righted_keeps _ (halted_keeps p Flags _ keep (λ h. omega (arith, h))
+      (only_with FaultOr14 (flags p) n small new keep.0.flags, λ b. go (either_out (flagged 14 (flags p)) (eqb 14 n) (sym (put_in (flags p) n 14 small (omega arith)) ∙ b))))
+    where
+      go : (flagged 14 (flags p) ≡ true) ⊎ (eqb 14 n ≡ true) → mode p ≡ 3
+      go (inl y) = keep.0.bus y
+      go (inr y) = at_3 (sym (eqb-true 14 n y))
 
   -- some are cleared; where SCMD is not 0, there were none
   cleared_keeps : (p : Plant) (rest : ℕ) → Fits p → Fits (set p Flags (bit_and (flags p) rest))
   cleared_keeps p rest keep =
       set_keeps p Flags _ keep
-      (only_less FaultOr14 (flags p) rest keep.0.flags, λ off b. keep.0.bus off (both_out (flagged 14 (flags p)) (flagged 14 rest) (sym (masks.common 14 (flags p) rest) ∙ b)).0)
+      (only_less FaultOr14 (flags p) rest keep.0.flags, λ b. keep.0.bus (both_out (flagged 14 (flags p)) (flagged 14 rest) (sym (masks.common 14 (flags p) rest) ∙ b)).0)
       (λ r. ap (λ (x : ℕ). bit_and x rest) (keep.0.commanded r).2 ∙ and_zero_l rest)
 
   reflagged_keeps : (p : Plant) (rest : ℕ) → Fits p → Fits (reflagged (bit_and (flags p) rest) p)
@@ -228,60 +225,30 @@ module _ (q : Numbers) where
   unfolding stopped halted
   stopped_keeps p keep = righted_keeps _ (scmd_keeps _ (cleared_keeps p _ keep))
 
-  -- ---- a word of Drive Control, which is written by bits, where SCMD is 0
-  mode_within : (word : ℕ) → Within 1 3 (mode_by word)
-  unfolding mode_by
-  mode_within word = pick_both (Within 1 3) (is_set Bus word) (λ _. (omega arith, omega arith)) (λ _. (omega arith, omega arith))
-
-  steered_keeps : (word : ℕ) (p : Plant) → by_bits p ≡ true → scmd p ≡ 0 → Fits p → Fits (steered word p)
-  unfolding steered by_bits acknowledged_by
-  steered_keeps word p bits idle keep =
-      righted_keeps _ (set_keeps stored MODE _ (control_keeps _ _ answered) (mode_within word, λ off. absurd (not_both (stays MethodAt (λ h. omega (arith, h)) (λ h. omega (arith, h)) (λ h. omega (arith, h)) bits) off))
-      (idle_obeys stored MODE _ (at_same SCMD (λ h. omega (arith, h)) (λ h. omega (arith, h)) (λ h. omega (arith, h)) ∙ idle) (λ h. omega (arith, h))))
-    where
-      stored : Plant
-      stored = with_control (without Acknowledge word) (acknowledged_by word p)
-
-      answered : Fits (acknowledged_by word p)
-      answered = pick_both Fits (is_set Acknowledge word) (λ _. acknowledged_keeps p keep) (λ _. keep)
-
-      at_same : (i : ℕ) → (i ≡ Flags → ⊥) → (i ≡ Drive-Status → ⊥) → (i ≡ Drive-Control → ⊥) → get_or stored i 0 ≡ get_or p i 0
-      at_same i f d c = get_or-set_other (acknowledged_by word p) Drive-Control i _ 0 c ∙ by_other word p i f d
-
-      stays : (i : ℕ) → (i ≡ Flags → ⊥) → (i ≡ Drive-Status → ⊥) → (i ≡ Drive-Control → ⊥) → eqb (get_or p i 0) 2 ≡ true → eqb (get_or stored i 0) 2 ≡ true
-      stays i f d c t = ap (λ (x : ℕ). eqb x 2) (at_same i f d c) ∙ t
-
   -- ---- a write, beside a sum of 0
-  module _ (zero : sum q ≡ 0) (p : Plant) (keep : Fits p) (idle : by_bits p ≡ true → scmd p ≡ 0) (row w : ℕ) (can : allowed p row w ≡ true) (free : flag_holds p row w ≡ false) (may : permitted p row w ≡ true) where
+  module _ (zero : sum q ≡ 0) (p : Plant) (keep : Fits p) (row w : ℕ) (can : allowed p row w ≡ true) (calm : flag_stands p ≡ false) (may : permitted p row w ≡ true) where
     -- what is allowed at a row is right there
     at : (k : ℕ) → eqb row k ≡ true → allowed p k w ≡ true
     at k e = sym (ap (λ (i : ℕ). allowed p i w) (eqb-true row k e)) ∙ can
 
-    -- a row up to SCMD is written while no flag stands
-    calm_0 : ltb SCMD row ≡ false → flags p ≡ 0
-    unfolding flag_stands is_control
-    calm_0 l =
-        let low : row ≤ SCMD = ltb-false SCMD row l in
-        let plain : is_control row ≡ false = rw (ne_eqb row Drive-Control (λ e. omega (arith, e, low)), ne_eqb row Control-Mask (λ e. omega (arith, e, low))) in
-        eqb-true (flags p) 0 (not-false (eqb (flags p) 0) (unheld_calm p row w plain free))
+    calm_0 : flags p ≡ 0
+    unfolding flag_stands
+    calm_0 = eqb-true (flags p) 0 (not-false (eqb (flags p) 0) calm)
 
     right : ltb SCMD row ≡ false → RightIn p row w
     right l =
         choose (ltb SCMD row) (λ e. absurd (not_both e l))
         (λ _. choose (eqb row SioTot) (λ _ _. zero)
         (λ _. choose (eqb row MbAdr) (λ e. mb_adr p w (at MbAdr e))
-        (λ _. choose (eqb row MODE) (λ e. (mode_one p w (at MODE e), λ off b. absurd (14_not_in_0 (flags p) (calm_0 l) b))) (λ _. choose (eqb row SCMD) (λ e. scmd_one p w (at SCMD e)) (λ _. tt)))))
+        (λ _. choose (eqb row MODE) (λ e. (mode_one p w (at MODE e), λ b. absurd (14_not_in_0 (flags p) calm_0 b))) (λ _. choose (eqb row SCMD) (λ e. scmd_one p w (at SCMD e)) (λ _. tt)))))
 
     -- "SCMD is written only at MODE 3; run values need DIN1 active", and no flag stands where anything is written
-    commands : ltb SCMD row ≡ false → eqb row SCMD ≡ true → (w ≡ 0 → ⊥) → Commanded p
-    unfolding permitted is_control commandable
-    commands l e o = (eqb-true (mode p) 3 rule.0, runs (either_out (eqb w 0) (active p) rule.1), calm_0 l)
+    commands : eqb row SCMD ≡ true → (w ≡ 0 → ⊥) → Commanded p
+    unfolding permitted
+    commands e o = (eqb-true (mode p) 3 rule.0, runs (either_out (eqb w 0) (active p) rule.1), calm_0)
       where
-        permits : both (not (by_bits p)) (both (eqb (mode p) 3) (either (eqb w 0) (active p))) ≡ true
-        permits = rw (eqb-true row SCMD e) at may
-
         rule : (eqb (mode p) 3 ≡ true) × (either (eqb w 0) (active p) ≡ true)
-        rule = both_out (eqb (mode p) 3) (either (eqb w 0) (active p)) (both_out (not (by_bits p)) _ permits).1
+        rule = both_out (eqb (mode p) 3) (either (eqb w 0) (active p)) (rw e at may)
 
         runs : (eqb w 0 ≡ true) ⊎ (active p ≡ true) → active p ≡ true
         runs (inl z) = absurd (o (eqb-true w 0 z))
@@ -292,7 +259,7 @@ module _ (q : Numbers) where
     stored l m =
         set_keeps p row w keep (right l)
         (choose (ltb SCMD row) (λ e. absurd (not_both e l))
-        (λ _. choose (eqb row MODE) (λ e. absurd (not_both e m)) (λ _. choose (eqb row SCMD) (commands l) (λ _. tt))))
+        (λ _. choose (eqb row MODE) (λ e. absurd (not_both e m)) (λ _. choose (eqb row SCMD) commands (λ _. tt))))
 
     -- "A write of a different Mode also sets Setpoint to 0"; "SCMD becomes 0 when .. MODE changes to a different number"
     followed_keeps : ltb SCMD row ≡ false → Fits (followed row (set p row w))
@@ -303,9 +270,9 @@ module _ (q : Numbers) where
 
     -- the same word again changes nothing
     pub applied_keeps : Fits (applied row w p)
-    unfolding applied applied_past permitted
+    unfolding applied
     applied_keeps =
-        pick_both Fits (ltb SCMD row) (λ _. pick_both Fits (is_control row) (λ is. let bits = (both_out (by_bits p) _ (rw is at may)).0 in steered_keeps (control_word p row w) p bits (idle bits) keep) (λ _. keep))
+        pick_both Fits (ltb SCMD row) (λ _. keep)
         (λ l. pick_both Fits (eqb (get_or p row 0) w) (λ e. rw (← eqb-true (get_or p row 0) w e, set-get_or p row 0) keep) (λ _. righted_keeps _ (followed_keeps l)))
 
   -- ---- the host's events
@@ -322,10 +289,9 @@ module _ (q : Numbers) where
 
   -- "SCMD becomes 0 when DIN1 goes inactive"
   pub active_keeps : (active : Bool) (p : Plant) → Fits p → Fits (with_active active p)
-  unfolding with_active switched switched_off
+  unfolding with_active switched
   active_keeps true p keep = righted_keeps _ (set_keeps p DIN1 1 keep tt (λ _. refl))
-  active_keeps false p keep =
-      righted_keeps _ (rw (set_comm (with_din1 0 p) Drive-Control SCMD _ 0 (λ h. omega (arith, h))) (control_keeps _ _ (halted_keeps p DIN1 0 keep (λ h. omega (arith, h)) tt)))
+  active_keeps false p keep = righted_keeps _ (halted_keeps p DIN1 0 keep (λ h. omega (arith, h)) tt)
 
   -- any number is right at the rows that the host sets
   pub measured_keeps : (m : Measured) (p : Plant) → Fits p → Fits (with_measured m p)
@@ -345,10 +311,9 @@ module _ (q : Numbers) where
   unfolding restarted
   restarted_keeps p keep =
       righted_keeps _
-      (rw (set_comm (set ready Flags (causes p)) Drive-Control SCMD 0 0 (λ h. omega (arith, h)))
-      (set_keeps _ MODE 1 (control_keeps _ 0 (halted_keeps _ Flags (causes p) ours (λ h. omega (arith, h)) ((keep.0.causes.0, λ k h e. inl (keep.0.causes.1 k h e)), λ _ b. absurd (no_14 b))))
-      ((omega arith, omega arith), λ _ b. absurd (no_14 (sym (ap (flagged 14) then) ∙ b)))
-      (λ r. absurd (r (get_or-set_other (with_scmd 0 (set ready Flags (causes p))) Drive-Control SCMD 0 0 (λ h. omega (arith, h)) ∙ scmd_0 (set ready Flags (causes p)) (length-set ready Flags (causes p) ∙ ours.0.sized))))))
+      (set_keeps _ MODE 1 (halted_keeps _ Flags (causes p) ours (λ h. omega (arith, h)) ((keep.0.causes.0, λ k h e. inl (keep.0.causes.1 k h e)), λ b. absurd (no_14 b)))
+      ((omega arith, omega arith), λ b. absurd (no_14 (sym (ap (flagged 14) then) ∙ b)))
+      (λ r. absurd (r (scmd_0 (set ready Flags (causes p)) (length-set ready Flags (causes p) ∙ ours.0.sized)))))
     where
       addressed : Plant
       addressed = set p Station (get_or p MbAdr 0)
@@ -363,15 +328,14 @@ module _ (q : Numbers) where
       no_14 : flagged 14 (causes p) ≡ true → ⊥
       no_14 b = 14_no_fault (keep.0.causes.1 14 (omega arith) b)
 
-      then : flags (with_control 0 (with_scmd 0 (set ready Flags (causes p)))) ≡ causes p
+      then : flags (with_scmd 0 (set ready Flags (causes p))) ≡ causes p
       then =
-          get_or-set_other (with_scmd 0 (set ready Flags (causes p))) Drive-Control Flags 0 0 (λ h. omega (arith, h))
-          ∙ get_or-set_other (set ready Flags (causes p)) SCMD Flags 0 0 (λ h. omega (arith, h)) ∙ get_or-set_same ready Flags (causes p) 0 (omega (arith, ours.0.sized))
+          get_or-set_other (set ready Flags (causes p)) SCMD Flags 0 0 (λ h. omega (arith, h)) ∙ get_or-set_same ready Flags (causes p) 0 (omega (arith, ours.0.sized))
 
 -- the column Start
-pub started_sound : (m : Method) → SoundPlant (started m)
+pub started_sound : SoundPlant started
 unfolding started start_words rows
-started_sound m =
+started_sound =
     record {
       sized = refl;
       address = (omega arith, omega arith);
@@ -381,5 +345,5 @@ started_sound m =
       station = (omega arith, omega arith);
       causes = none_in Fault;
       flags = none_in FaultOr14;
-      bus = λ _ b. absurd (14_not_in_0 0 refl b);
+      bus = λ b. absurd (14_not_in_0 0 refl b);
     }

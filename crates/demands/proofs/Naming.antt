@@ -78,7 +78,7 @@ module _ (p : Plant) (q : Numbers) (n w : ℕ) where
   wrote_names = go (written p n w).permit refl
     where
       go : (k : Permit) → (written p n w).permit ≡ k → answer_number (permitted k) ≡ 0 → permitted k ≡ change
-      go (Write change) e z = ap Answers.Written (written_permits p n w change e).asked
+      go (Write change) e z = ap Answers.Written (written_permits p n w change e).0
       go (Refused x) e z = absurd (omega (arith, z, (refusal_within x).0))
 
   select_names : (adr e : ℕ) → row_of_e e ≡ row n → Names (Nfo.served p q (Select adr (Number (record { 0 = e })) (Word w)))

@@ -10,18 +10,16 @@ use borrow.Author.Tests.{eq-eqb, lt-ltb, eqb-true, eqb-false, ltb-true, ltb-fals
 use lib.Dec.{eqb, ltb}
 use lib.ListN.{length, get_or, set, length-set, replicate}
 use lib.Seq.{get_or-set_same, get_or-set_other}
-use Rattle.base.specs.Choice.{pick, either}
-use Rattle.base.proofs.Tests.{both_false, either_left, either_right, not_yes}
-use Rattle.table.specs.Names.{SioTot, MODE, SCMD, FrqAct, I-rms, OpTime, Drive-Status, Drive-Control}
+use Rattle.base.specs.Choice.{either}
+use Rattle.base.proofs.Tests.{either_left, either_right, not_yes}
+use Rattle.table.specs.Names.{SioTot, MODE, SCMD, FrqAct, I-rms, OpTime, Drive-Status}
 use Rattle.table.specs.Table.{rows, start_words}
 use Rattle.port.specs.Port.{Numbers, Sum, Sioerr, sum, sioerr, with_sioerr}
 use Rattle.drive.specs.Plant as Plants
-use Rattle.drive.specs.Plant.{Plant, Sized, DIN1, Causes, Flags, control, flags, with_causes}
+use Rattle.drive.specs.Plant.{Plant, Sized, DIN1, Causes, Flags, mode, flags, with_din1, with_causes}
 use Rattle.drive.specs.Flags.{flagged}
-use Rattle.drive.specs.Bits.{by_bits, is_set, SwitchOn}
-use Rattle.drive.specs.Status.{runs_by_scmd, runs, righted}
+use Rattle.drive.specs.Status.{runs, righted}
 use Rattle.drive.proofs.Righted.{righted_other}
-use Rattle.drive.proofs.Steering.{set_is}
 use Rattle.drive.specs.Events.{is_fault}
 use Rattle.drive.specs.declared.events.Measured.{Measured}
 use Rattle.drive.specs.declared.events.Measured.TheVariants.{Frq, Rms, Optime}
@@ -36,11 +34,11 @@ use Rattle.turn.specs.Turn.{Received}
 use Rattle.receive.specs.Receive.{received}
 use Rattle.master_reply.specs.Told.{Within}
 use Rattle.demands.specs.Calls.{besides}
-use Rattle.demands.specs.Kept.{PutIn, TakenOut}
+use Rattle.demands.specs.Kept.{PutIn}
 use Rattle.demands.specs.Demand1.{Leaves}
 use Rattle.demands.specs.Host.{RaisesFlag, PortFaultLeaves}
 use Rattle.demands.specs.Silence.{Unheard, Silence, over, call, tick, no_tick, raise, end, din1, measure, parity, Stopped, SilenceStops}
-use Rattle.demands.proofs.AtName.{at_name}
+use Rattle.demands.proofs.KeptPlant.{at_name}
 use Rattle.demands.proofs.Demand1.{demand_1}
 use Rattle.demands.proofs.Host.{host}
 
@@ -50,13 +48,6 @@ stays_in n k before after small put e = put k small ∙ either_left (flagged k b
 
 now_in : (n before after : ℕ) → n < 32 → PutIn n before after → flagged n after ≡ true
 now_in n before after small put = put n small ∙ either_right (flagged n before) (eqb n n) (eq-eqb n n refl)
-
--- a number that is taken out is not in, nor once another is taken out
-now_out : (n before after : ℕ) → n < 32 → TakenOut n before after → flagged n after ≡ false
-now_out n before after small out = out n small ∙ rw (eq-eqb n n refl) (both_false (flagged n before))
-
-stays_out : (n k before after : ℕ) → k < 32 → TakenOut n before after → flagged k before ≡ false → flagged k after ≡ false
-stays_out n k before after small out e = out k small ∙ rw e
 
 -- a call that hears nothing changes what is pending, and nothing else
 unheard_keeps : (c : Card) (count : ℕ) (r : Received) → Leaves c count r → Unheard r → besides r.card ≡ besides c
@@ -68,10 +59,6 @@ unheard_keeps c count r l (inr ten) = by l.listed (eqb (outcome_number r.outcome
     by (inl most) true q = ap besides (l.short (eqb-true (outcome_number r.outcome) 10 q)).0
     by (inl most) false q = ap besides (l.spoilt (omega (arith, ten, most, eqb-false (outcome_number r.outcome) 10 q))).0
 
--- a flag that is raised leaves bit 0 clear
-lifted : (n : ℕ) (p after : Plant) (r : RaisesFlag n p after) → flagged 0 r.word ≡ false
-lifted n p after r = stays_out 3 0 r.off r.word (omega arith) r.disabled (now_out 0 (control p) r.off (omega arith) r.switched_off_lem)
-
 -- ---- the plant, with this SioTot; `out` is whether the time is out
 module _ (tot : ℕ) (out : Bool) where
   record Guarded (p : Plant) : Type 0 where
@@ -80,45 +67,35 @@ module _ (tot : ℕ) (out : Bool) where
     limit : get_or p SioTot 0 ≡ tot
     scmd : out ≡ true → Plants.scmd p ≡ 0
     flag_14 : out ≡ true → flagged 14 (flags p) ≡ true
-    off : out ≡ true → flagged 0 (control p) ≡ false
 
-  -- a number is set that is neither MODE nor SioTot; SCMD becomes 0, of the flags none is cleared, and of Drive Control bit 0 is not set
-  set_guarded : (p : Plant) (i v : ℕ) → Guarded p → i ≢ MODE → i ≢ SioTot → (i ≡ SCMD → v ≡ 0) → (i ≡ Flags → out ≡ true → flagged 14 v ≡ true)
-      → (i ≡ Drive-Control → flagged 0 v ≡ false) → Guarded (set p i v)
-  set_guarded p i v g other unlimited halts in-flags unlit =
+  -- a number is set that is neither MODE nor SioTot; SCMD becomes 0, and of the flags none is cleared
+  set_guarded : (p : Plant) (i v : ℕ) → Guarded p → i ≢ MODE → i ≢ SioTot → (i ≡ SCMD → v ≡ 0) → (i ≡ Flags → out ≡ true → flagged 14 v ≡ true) → Guarded (set p i v)
+  set_guarded p i v g other unlimited halts in-flags =
       record {
         sized = length-set p i v ∙ g.sized;
         mode = at_name (λ (x : ℕ). x ≡ 3) p i MODE v g.mode (λ e. absurd (other e));
         limit = at_name (λ (x : ℕ). x ≡ tot) p i SioTot v g.limit (λ e. absurd (unlimited e));
         scmd = at_name (λ (x : ℕ). out ≡ true → x ≡ 0) p i SCMD v g.scmd (λ e _. halts e);
         flag_14 = at_name (λ (x : ℕ). out ≡ true → flagged 14 x ≡ true) p i Flags v g.flag_14 in-flags;
-        off = at_name (λ (x : ℕ). out ≡ true → flagged 0 x ≡ false) p i Drive-Control v g.off (λ e _. unlit e);
       }
 
-  -- a number that none of this asks for: behind SCMD stand those, the flags and Drive Control
-  free_guarded : (p : Plant) (i v : ℕ) → SCMD < i → i ≢ Flags → i ≢ Drive-Control → Guarded p → Guarded (set p i v)
-  free_guarded p i v behind other control g =
-      set_guarded p i v g (λ e. omega (arith, e, behind)) (λ e. omega (arith, e, behind)) (λ e. absurd (omega (arith, e, behind))) (λ e. absurd (other e)) (λ e. absurd (control e))
-
-  -- SCMD becomes 0; bit 0 is not set
-  halted_guarded : (p : Plant) → Guarded p → Guarded (set p SCMD 0)
-  halted_guarded p g = set_guarded p SCMD 0 g (λ h. omega (arith, h)) (λ h. omega (arith, h)) (λ _. refl) (λ h. absurd (omega (arith, h))) (λ h. absurd (omega (arith, h)))
-
-  off_guarded : (p : Plant) (v : ℕ) → flagged 0 v ≡ false → Guarded p → Guarded (set p Drive-Control v)
-  off_guarded p v unlit g = set_guarded p Drive-Control v g (λ h. omega (arith, h)) (λ h. omega (arith, h)) (λ h. absurd (omega (arith, h))) (λ h. absurd (omega (arith, h))) (λ _. unlit)
+  -- a number that none of this asks for: behind SCMD stand those and the flags
+  free_guarded : (p : Plant) (i v : ℕ) → SCMD < i → i ≢ Flags → Guarded p → Guarded (set p i v)
+  free_guarded p i v behind other g =
+      set_guarded p i v g (λ e. omega (arith, e, behind)) (λ e. omega (arith, e, behind)) (λ e. absurd (omega (arith, e, behind))) (λ e. absurd (other e))
 
   -- the word that is kept is such a number
   righted_guarded : (p : Plant) → Guarded p → Guarded (righted p)
   unfolding righted
-  righted_guarded p = free_guarded p Drive-Status _ (omega arith) (λ h. omega (arith, h)) (λ h. omega (arith, h))
+  righted_guarded p = free_guarded p Drive-Status _ (omega arith) (λ h. omega (arith, h))
 
-  -- a flag is raised, SCMD becomes 0, and bit 0 of Drive Control is cleared
+  -- a flag is raised, and SCMD becomes 0
   flag_guarded : (n : ℕ) (p after : Plant) → RaisesFlag n p after → Guarded p → Guarded after
-  flag_guarded n p after r g =
-      subst Guarded (sym r.all)
-      (righted_guarded _ (halted_guarded _
-      (set_guarded (set p Drive-Control r.word) Flags r.flags_then (off_guarded p r.word (lifted n p after r) g) (λ h. omega (arith, h)) (λ h. omega (arith, h)) (λ h. absurd (omega (arith, h)))
-      (λ _ o. stays_in n 14 (flags p) r.flags_then (omega arith) r.raised (g.flag_14 o)) (λ h. absurd (omega (arith, h))))))
+  flag_guarded n p after (x, put, e) g =
+      subst Guarded (sym e)
+      (righted_guarded _ (set_guarded (set p Flags x) SCMD 0
+      (set_guarded p Flags x g (λ h. omega (arith, h)) (λ h. omega (arith, h)) (λ h. absurd (omega (arith, h))) (λ _ o. stays_in n 14 (flags p) x (omega arith) put (g.flag_14 o)))
+      (λ h. omega (arith, h)) (λ h. omega (arith, h)) (λ _. refl) (λ h. absurd (omega (arith, h)))))
 
   -- ---- the port's numbers and the plant
   record Watched (q : Numbers) (p : Plant) : Type 0 where
@@ -169,7 +146,7 @@ module _ (tot : ℕ) (out : Bool) where
       let (p, raises, (x, put, is)) = host.raise n c e in
       subst (Passes c) (sym is)
       (plant_passes c (with_causes x p)
-      (λ g. free_guarded p Causes x (omega arith) (λ h. omega (arith, h)) (λ h. omega (arith, h)) (flag_guarded n c.plant p raises g))))
+      (λ g. free_guarded p Causes x (omega arith) (λ h. omega (arith, h)) (flag_guarded n c.plant p raises g))))
       (λ e. (demand_1.events.raise n c).1 (((demand_1.events.raise n c).0 12).1 (inl (not_yes (is_fault n) e, refl))))
 
   end_passes : (n : ℕ) (c : Card) → Passes c (cause_ended n c).card
@@ -178,46 +155,37 @@ module _ (tot : ℕ) (out : Bool) where
       (λ e.
       let (x, put, is) = host.end n c e in
       subst (Passes c) (sym is)
-      (plant_passes c (with_causes x c.plant) (free_guarded c.plant Causes x (omega arith) (λ h. omega (arith, h)) (λ h. omega (arith, h)))))
+      (plant_passes c (with_causes x c.plant) (free_guarded c.plant Causes x (omega arith) (λ h. omega (arith, h)))))
       (λ e. (demand_1.events.end n c).1 (((demand_1.events.end n c).0 12).1 (inl (not_yes (is_fault n) e, refl))))
 
   -- DIN1 and the measured numbers
   din1_passes : (active : Bool) (c : Card) → Passes c (din1_set active c).card
-  din1_passes true c = rw (host.active c) (plant_passes c _ (λ g. righted_guarded _ (free_guarded c.plant DIN1 1 (omega arith) (λ h. omega (arith, h)) (λ h. omega (arith, h)) g)))
+  din1_passes true c = rw (host.active c) (plant_passes c _ (λ g. righted_guarded _ (free_guarded c.plant DIN1 1 (omega arith) (λ h. omega (arith, h)) g)))
   din1_passes false c =
-      let (x, cleared, is) = host.inactive c in
-      subst (Passes c) (sym is)
+      rw (host.inactive c)
       (plant_passes c _
-      (λ g. righted_guarded _ (halted_guarded _
-      (off_guarded _ x (now_out 0 (control c.plant) x (omega arith) cleared) (free_guarded c.plant DIN1 0 (omega arith) (λ h. omega (arith, h)) (λ h. omega (arith, h)) g)))))
+      (λ g. righted_guarded _
+      (set_guarded (with_din1 0 c.plant) SCMD 0 (free_guarded c.plant DIN1 0 (omega arith) (λ h. omega (arith, h)) g)
+      (λ h. omega (arith, h)) (λ h. omega (arith, h)) (λ _. refl) (λ h. absurd (omega (arith, h))))))
 
   measure_passes : (measured : Measured) (c : Card) → Passes c (measured_set measured c).card
-  measure_passes (Frq w) c = rw (host.frq_act w c) (plant_passes c _ (free_guarded c.plant FrqAct w (omega arith) (λ h. omega (arith, h)) (λ h. omega (arith, h))))
-  measure_passes (Rms w) c = rw (host.i_rms w c) (plant_passes c _ (free_guarded c.plant I-rms w (omega arith) (λ h. omega (arith, h)) (λ h. omega (arith, h))))
-  measure_passes (Optime w) c = rw (host.op_time w c) (plant_passes c _ (free_guarded c.plant OpTime w (omega arith) (λ h. omega (arith, h)) (λ h. omega (arith, h))))
+  measure_passes (Frq w) c = rw (host.frq_act w c) (plant_passes c _ (free_guarded c.plant FrqAct w (omega arith) (λ h. omega (arith, h))))
+  measure_passes (Rms w) c = rw (host.i_rms w c) (plant_passes c _ (free_guarded c.plant I-rms w (omega arith) (λ h. omega (arith, h))))
+  measure_passes (Optime w) c = rw (host.op_time w c) (plant_passes c _ (free_guarded c.plant OpTime w (omega arith) (λ h. omega (arith, h))))
 
 -- ---- the port's faults
 module _ (tot : ℕ) (out : Bool) where
   -- a port's fault at MODE 3 raises 14, and SCMD is 0 then
   fault_guarded : (p after : Plant) → RaisesFlag 14 p after → Guarded tot out p → Guarded tot true after
-  fault_guarded p after r g =
-      let kept : Guarded tot out after = flag_guarded tot out 14 p after r g in
-      let disabled : Plant = set p Drive-Control r.word in
-      let flagged-then : Plant = set disabled Flags r.flags_then in
-      let size : length disabled ≡ length p = length-set p Drive-Control r.word in
+  fault_guarded p after raises g =
+      let kept : Guarded tot out after = flag_guarded tot out 14 p after raises g in
+      let (x, put, is) = raises in
       record {
         sized = kept.sized;
         mode = kept.mode;
         limit = kept.limit;
-        scmd = λ _. rw r.all (righted_other _ SCMD (λ h. omega (arith, h)) ∙ get_or-set_same flagged-then SCMD 0 0 (omega (arith, length-set disabled Flags r.flags_then, size, g.sized)));
-        flag_14 =
-            λ _. rw
-            (r.all, righted_other (set flagged-then SCMD 0) Flags (λ h. omega (arith, h)), get_or-set_other flagged-then SCMD Flags 0 0 (λ h. omega (arith, h)), get_or-set_same disabled Flags r.flags_then 0 (omega (arith, size, g.sized)))
-            (now_in 14 (flags p) r.flags_then (omega arith) r.raised);
-        off =
-            λ _. rw
-            (r.all, righted_other (set flagged-then SCMD 0) Drive-Control (λ h. omega (arith, h)), get_or-set_other flagged-then SCMD Drive-Control 0 0 (λ h. omega (arith, h)), get_or-set_other disabled Flags Drive-Control r.flags_then 0 (λ h. omega (arith, h)), get_or-set_same p Drive-Control r.word 0 (omega (arith, g.sized)))
-            (lifted 14 p after r);
+        scmd = λ _. rw is (righted_other _ SCMD (λ h. omega (arith, h)) ∙ get_or-set_same (set p Flags x) SCMD 0 0 (omega (arith, length-set p Flags x, g.sized)));
+        flag_14 = λ _. rw (is, righted_other (set (set p Flags x) SCMD 0) Flags (λ h. omega (arith, h)), get_or-set_other (set p Flags x) SCMD Flags 0 0 (λ h. omega (arith, h)), get_or-set_same p Flags x 0 (omega (arith, g.sized))) (now_in 14 (flags p) x (omega arith) put);
       }
 
   -- its bit in SioErr is put in; `after` is whether the time is out then
@@ -229,7 +197,7 @@ module _ (tot : ℕ) (out : Bool) where
       rw q
       (record {
         sized = length-set c.port.numbers Sioerr left.word ∙ w.sized;
-        plant = record { sized = g.sized; mode = g.mode; limit = g.limit; scmd = λ _. g.scmd refl; flag_14 = λ _. g.flag_14 refl; off = λ _. g.off refl };
+        plant = record { sized = g.sized; mode = g.mode; limit = g.limit; scmd = λ _. g.scmd refl; flag_14 = λ _. g.flag_14 refl };
         time_out = λ e. rw (get_or-set_same c.port.numbers Sioerr left.word 0 (omega (arith, w.sized))) (told e left.word left.bit_set);
       })
 
@@ -310,13 +278,8 @@ module _ (tot : ℕ) (some : tot ≢ 0) where
 
 -- what the time being out comes to
 stopped : (tot : ℕ) (c : Card) → WatchedCard tot true c → Stopped c
-unfolding runs runs_by_scmd
-stopped tot c w = record { still = go (by_bits c.plant); flag_14 = w.plant.flag_14 refl; time_out = w.time_out refl }
-  where
-    -- by method 1, SCMD is 0 at MODE 3; by bits, bit 0 is not stored
-    go : (t : Bool) → pick t (is_set SwitchOn (control c.plant)) (runs_by_scmd c.plant) ≡ false
-    go true = set_is 0 (control c.plant) (omega arith) ∙ w.plant.off refl
-    go false = rw (w.plant.mode, w.plant.scmd refl)
+unfolding runs
+stopped tot c w = record { still = rw (w.plant.mode, w.plant.scmd refl); flag_14 = w.plant.flag_14 refl; time_out = w.time_out refl }
 
 -- ---- the tenths of a clock
 -- a sum of tenths, written otherwise
@@ -334,14 +297,14 @@ pub silence_stops : SilenceStops
 unfolding started Plants.started start_words rows handed_over ticks_of
 silence_stops =
     record {
-      start = λ protocol m i. refl;
+      start = λ protocol i. refl;
       stops =
           λ c d tenths sized numbers at_3 some silence more.
           stopped (get_or c.plant SioTot 0) d
           (runs_out (get_or c.plant SioTot 0) some c d tenths silence false 0
           (record {
             sized = numbers;
-            plant = record { sized = sized; mode = at_3; limit = refl; scmd = λ e. absurd (false≢true e); flag_14 = λ e. absurd (false≢true e); off = λ e. absurd (false≢true e) };
+            plant = record { sized = sized; mode = at_3; limit = refl; scmd = λ e. absurd (false≢true e); flag_14 = λ e. absurd (false≢true e) };
             time_out = λ e. absurd (false≢true e);
           })
           (λ _. (omega arith, omega arith, omega (arith, more))));

@@ -29,7 +29,7 @@ changes =
       acknowledges = acknowledged_right;
       clears_14 = without14_right;
       stops = stopped_right;
-      writes = λ row w p can free may. applied_right row w p;
+      writes = λ row w p can. applied_right row w p;
     }
 
 -- any number of them keep a card sound
@@ -46,9 +46,9 @@ status_kept =
     record {
       register = refl;
       write = λ p w. refl;
-      start = λ protocol m i. started_right m;
+      start = λ protocol i. started_right;
       each = step_keeps Right changes;
       restart = λ c sized. restarted_right c.plant sized;
       told = told;
-      always = λ protocol m i given c run. told (started protocol m i) c (kept.start protocol m i given) (started_right m) run;
+      always = λ protocol i given c run. told (started protocol i) c (kept.start protocol i given) started_right run;
     }

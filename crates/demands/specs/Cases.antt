@@ -1,11 +1,10 @@
 -- Document 01's ★ cases and case 9, the errors that it says to rule out, small letters, an exchange of RTU, a 32-bit row written and read back over ASCII, the
--- time-out that is on from the start, SiAdr at its limits, the status word that is kept, control by bits, and the card's identity: one table, one statement. "Fresh start, address 1, unless said". Assumes nothing.
+-- time-out that is on from the start, SiAdr at its limits, the status word that is kept, and the card's identity: one table, one statement. "Fresh start, address 1, unless said". Assumes nothing.
 use Rattle.std.specs.Prelude.{◌≡◌, true, List, [], ◌∷◌, ◌++◌, map, ℕ, zero, suc, ◌+◌, ◌^◌, drop}
 use Rattle.base.specs.Buffers.{reply_least}
 use Rattle.hex_pairs.specs.Hex.{hex_of}
 use Rattle.identity.specs.Identity.{Identity}
 use Rattle.drive.specs.Plant as Plant
-use Rattle.drive.specs.declared.plant.Method.TheVariants.{Scmd, Bits}
 use Rattle.card.specs.declared.state.Card.{Card}
 use Rattle.card.specs.declared.state.Protocol.{Protocol}
 use Rattle.card.specs.declared.state.Protocol.TheVariants.{Nfo, Rtu, Ascii}
@@ -204,7 +203,7 @@ who =
     ∷ 0x30 ∷ 0x30 ∷ 0x34 ∷ 0x32 ∷ 0x00 ∷ 0x41 ∷ 0x42 ∷ 0x43 ∷ 0x44 ∷ 0x45 ∷ 0x46 ∷ 0x47 ∷ 0x48 ∷ 0x49 ∷ 0x4A ∷ 0x4B ∷ []
 
 abbrev pub fresh : Protocol → Card
-fresh protocol = started protocol Scmd who
+fresh protocol = started protocol who
 
 -- fault 1 was raised and its cause has ended, so that a read of 00E8 or 02A4h would acknowledge it
 abbrev pub faulted : Protocol → Card
@@ -242,40 +241,6 @@ holding address before said after then =
 -- a fresh card on NFO serial to which MODE 3 is written, and the flags that stand after what comes then
 abbrev pub at_mode_3 : List Event → List Said → ℕ → Case
 at_mode_3 events right flags = record { card = fresh Nfo; events = came mode_3 ∷ events; right = showing (says 0 ack ∷ right) flags }
-
--- a fresh card on RTU that is steered by bits, with DIN1 active, and the flags that stand after what comes
-abbrev pub by_bits_lem : List Event → List Said → ℕ → Case
-by_bits_lem events right flags = record { card = (din1_set true (started Rtu Bits who)).card; events = events; right = showing right flags }
-
--- 06 of Drive Control, which its reply repeats: bus control; with enable; with switch on; the first with bit 7
-abbrev pub take_control : List ℕ
-take_control = 0x01 ∷ 0x06 ∷ 0x02 ∷ 0x54 ∷ 0x40 ∷ 0x00 ∷ 0xF8 ∷ 0x62 ∷ []
-
-abbrev pub enable : List ℕ
-enable = 0x01 ∷ 0x06 ∷ 0x02 ∷ 0x54 ∷ 0x40 ∷ 0x08 ∷ 0xF9 ∷ 0xA4 ∷ []
-
-abbrev pub switch_on : List ℕ
-switch_on = 0x01 ∷ 0x06 ∷ 0x02 ∷ 0x54 ∷ 0x40 ∷ 0x09 ∷ 0x38 ∷ 0x64 ∷ []
-
-abbrev pub acknowledge : List ℕ
-acknowledge = 0x01 ∷ 0x06 ∷ 0x02 ∷ 0x54 ∷ 0x40 ∷ 0x80 ∷ 0xF9 ∷ 0xC2 ∷ []
-
--- 16 of the mask: AND FFFFh, OR 0008h, which enables; the reply
-abbrev pub mask_enable : List ℕ
-mask_enable = 0x01 ∷ 0x10 ∷ 0x07 ∷ 0x1C ∷ 0x00 ∷ 0x02 ∷ 0x04 ∷ 0xFF ∷ 0xFF ∷ 0x00 ∷ 0x08 ∷ 0xD5 ∷ 0x24 ∷ []
-
-abbrev pub mask_written : List ℕ
-mask_written = 0x01 ∷ 0x10 ∷ 0x07 ∷ 0x1C ∷ 0x00 ∷ 0x02 ∷ 0x81 ∷ 0x7A ∷ []
-
--- a read of Drive Control, and of its mask; an exception 04 to 06
-abbrev pub ask_control : List ℕ
-ask_control = 0x01 ∷ 0x03 ∷ 0x02 ∷ 0x54 ∷ 0x00 ∷ 0x01 ∷ 0xC4 ∷ 0x62 ∷ []
-
-abbrev pub ask_mask : List ℕ
-ask_mask = 0x01 ∷ 0x03 ∷ 0x07 ∷ 0x1C ∷ 0x00 ∷ 0x02 ∷ 0x04 ∷ 0xB9 ∷ []
-
-abbrev pub not_now : List ℕ
-not_now = 0x01 ∷ 0x86 ∷ 0x04 ∷ 0x43 ∷ 0xA3 ∷ []
 
 unfoldable pub cases : List Case
 cases =
@@ -389,26 +354,6 @@ cases =
       events = came ask_drive ∷ came (0x01 ∷ 0x03 ∷ 0x02 ∷ 0xA4 ∷ 0x00 ∷ 0x01 ∷ 0xC4 ∷ 0x51 ∷ []) ∷ came ask_drive ∷ [];
       right = showing (says 0 drive_0048 ∷ says 0 told_1 ∷ says 0 drive_0040 ∷ []) 0;
     }
-    -- control by bits, in its three steps, the second by the mask: Drive Control tells the word, Drive Status bit 2 enabled and bit 1 running, Inv St 38
-    ∷ by_bits_lem (came take_control ∷ came mask_enable ∷ came ask_control ∷ came switch_on ∷ came ask_drive ∷ came (0x01 ∷ 0x03 ∷ 0x02 ∷ 0xA5 ∷ 0x00 ∷ 0x01 ∷ 0x95 ∷ 0x91 ∷ []) ∷ [])
-    (says 0 take_control ∷ says 0 mask_written ∷ says 0 (0x01 ∷ 0x03 ∷ 0x02 ∷ 0x40 ∷ 0x08 ∷ 0x88 ∷ 0x42 ∷ []) ∷ says 0 switch_on ∷ says 0 (0x01 ∷ 0x03 ∷ 0x02 ∷ 0x02 ∷ 0x07 ∷ 0xF8 ∷ 0xE6 ∷ []) ∷ says 0 (0x01 ∷ 0x03 ∷ 0x02 ∷ 0x00 ∷ 0x26 ∷ 0x39 ∷ 0x9E ∷ []) ∷ []) 0
-    -- "7 .. for each step out of turn": enable without bus control stored, switch on without enable, or with enable only written, and without DIN1
-    ∷ by_bits_lem (came enable ∷ came switch_on ∷ came take_control ∷ came switch_on ∷ came enable ∷ came (0x01 ∷ 0x06 ∷ 0x02 ∷ 0x54 ∷ 0x40 ∷ 0x01 ∷ 0x39 ∷ 0xA2 ∷ []) ∷ [])
-    (says 7 not_now ∷ says 7 not_now ∷ says 0 take_control ∷ says 7 not_now ∷ says 0 enable ∷ says 7 not_now ∷ []) 0
-    ∷ record {
-      card = started Rtu Bits who;
-      events = came take_control ∷ came enable ∷ came switch_on ∷ [];
-      right = showing (says 0 take_control ∷ says 0 enable ∷ says 7 not_now ∷ []) 0;
-    }
-    -- a silent master: "A fault clears 0 and 3"; "5 for other writes under a flag"; bit 7 acknowledges, but not 14, and is not stored; MODE is 1 without bit 14
-    ∷ by_bits_lem (came take_control ∷ came enable ∷ came switch_on ∷ tick 50 ∷ tick 1 ∷ came ask_control ∷ came take_control ∷ came acknowledge ∷ came ask_control ∷ came (0x01 ∷ 0x06 ∷ 0x02 ∷ 0x54 ∷ 0x00 ∷ 0x80 ∷ 0xC8 ∷ 0x02 ∷ []) ∷ came (0x01 ∷ 0x03 ∷ 0x02 ∷ 0x94 ∷ 0x00 ∷ 0x01 ∷ 0xC4 ∷ 0x5E ∷ []) ∷ [])
-    (says 0 take_control ∷ says 0 enable ∷ says 0 switch_on ∷ says 0 (0x01 ∷ 0x03 ∷ 0x02 ∷ 0x40 ∷ 0x00 ∷ 0x89 ∷ 0x84 ∷ []) ∷ says 5 not_now ∷ says 0 acknowledge ∷ says 0 (0x01 ∷ 0x03 ∷ 0x02 ∷ 0x40 ∷ 0x00 ∷ 0x89 ∷ 0x84 ∷ []) ∷ says 0 (0x01 ∷ 0x06 ∷ 0x02 ∷ 0x54 ∷ 0x00 ∷ 0x80 ∷ 0xC8 ∷ 0x02 ∷ []) ∷ says 0 (0x01 ∷ 0x03 ∷ 0x02 ∷ 0x00 ∷ 0x01 ∷ 0x79 ∷ 0x84 ∷ []) ∷ []) (2 ^ 14)
-    -- "7 for a write to the other method's rows": MODE by bits, Drive Control by method 1; "2 for a read of the mask", 1 to all; 06 names one register of two
-    ∷ by_bits_lem (came rtu_mode_3 ∷ came ask_mask ∷ came (0x00 ∷ 0x03 ∷ 0x07 ∷ 0x1C ∷ 0x00 ∷ 0x02 ∷ 0x05 ∷ 0x68 ∷ []) ∷ came (0x01 ∷ 0x06 ∷ 0x07 ∷ 0x1C ∷ 0xFF ∷ 0xFF ∷ 0x48 ∷ 0xC8 ∷ []) ∷ [])
-    (says 7 not_now ∷ says 2 (0x01 ∷ 0x83 ∷ 0x02 ∷ 0xC0 ∷ 0xF1 ∷ []) ∷ says 1 [] ∷ says 2 (0x01 ∷ 0x86 ∷ 0x02 ∷ 0xC3 ∷ 0xA1 ∷ []) ∷ []) 0
-    ∷ rtu take_control (says 7 not_now ∷ [])
-    -- "restart clears it"
-    ∷ by_bits_lem (came take_control ∷ restart ∷ came ask_control ∷ came enable ∷ []) (says 0 take_control ∷ says 0 (0x01 ∷ 0x03 ∷ 0x02 ∷ 0x00 ∷ 0x00 ∷ 0xB8 ∷ 0x44 ∷ []) ∷ says 7 not_now ∷ []) 0
     -- "Who are you?" Over RTU, by function 43, type 14:
     -- code 01, object 00h: up to 02h
     ∷ rtu (0x01 ∷ 0x2B ∷ 0x0E ∷ 0x01 ∷ 0x00 ∷ 0x70 ∷ 0x77 ∷ [])

@@ -6,8 +6,6 @@ use Rattle.demands.specs.Reached.{Reached}
 use Rattle.demands.specs.Silence.{SilenceStops}
 use Rattle.demands.specs.Effects.{Effects}
 use Rattle.demands.specs.Status.{StatusKept}
-use Rattle.demands.specs.Steps.{NoStepSkipped}
-use Rattle.demands.specs.Unmoved.{Unmoved}
 use Rattle.demands.specs.Demand2.{Demand2}
 use Rattle.demands.specs.Identity.{WhoAreYou}
 use Rattle.demands.specs.Letters.{Letters}
@@ -22,8 +20,6 @@ pub record Demands : Type 0 where
   pub silence : SilenceStops
   pub effects : Effects
   pub status : StatusKept
-  pub steps : NoStepSkipped
-  pub unmoved : Unmoved
   pub demand_2 : Demand2
   pub identity : WhoAreYou
   pub letters : Letters

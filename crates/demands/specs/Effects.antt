@@ -1,9 +1,9 @@
 -- Demand 2, its first half: "Each message has exactly the effect .. of document 01". An effect is told by what a following read answers, in messages as a master
 -- writes them, over each of the three protocols; and every number that no read tells is named. Drive Status is a row like any other here: its word stands in the card, and after
 -- every message it is told by its rule, where it was right before (`drive_status`, and `Status`). Assumes nothing.
-use Rattle.std.specs.Prelude.{◌≡◌, ◌≢◌, ◌↔◌, true, false, List, [], ℕ, ◌/◌, ◌%◌, ◌^◌, ◌<◌, eqb, length, get_or}
+use Rattle.std.specs.Prelude.{◌≡◌, ◌⊎◌, ◌≢◌, ◌↔◌, true, false, List, [], ℕ, ◌/◌, ◌^◌, ◌<◌, eqb, length, get_or}
 use Rattle.base.specs.Choice.{pick, both, either}
-use Rattle.table.specs.Names.{Mode, Setpoint, MODE, SCMD, Inv-St-ack, Inv-St, SioErr, Drive-Status, Drive-Control, Control-Mask, row_count}
+use Rattle.table.specs.Names.{Mode, Setpoint, MODE, SCMD, Inv-St-ack, Inv-St, SioErr, Drive-Status, row_count}
 use Rattle.table.specs.Table.{Word, line_at}
 use Rattle.table.specs.Find.{row_of_e, row_of_span}
 use Rattle.table.specs.declared.labels.Found.{Found}
@@ -11,15 +11,11 @@ use Rattle.table.specs.declared.labels.Found.TheVariants.{At}
 use Rattle.identity.specs.Identity.{Identity}
 use Rattle.identity.specs.declared.Part.{Part}
 use Rattle.port.specs.Port.{protocol, sum, sioerr, with_sioerr}
-use Rattle.drive.specs.declared.plant.Method.{Method}
-use Rattle.drive.specs.Plant.{Plant, si_adr, mode, scmd, control, din1, causes, flags, station, method}
+use Rattle.drive.specs.Plant.{Plant, si_adr, mode, scmd, din1, causes, flags, station}
 use Rattle.drive.specs.Flags.{flagged, only}
-use Rattle.drive.specs.Bits.{is_set, Bus, Enable, SwitchOn, Acknowledge}
-use Rattle.drive.specs.Status.{Right}
-use Rattle.drive.specs.Control.{is_control}
+use Rattle.drive.specs.Status.{active, Right}
 use Rattle.drive.specs.Faults.{reflagged}
 use Rattle.answers.specs.declared.Answer.TheVariants as Answers
-use Rattle.answers.specs.declared.Refusal.TheVariants as Refusals
 use Rattle.answers.specs.declared.Change.{Change}
 use Rattle.card.specs.State.{protocol_of, with_plant, card_sum, started}
 use Rattle.card.specs.Outcome.{outcome_number}
@@ -93,14 +89,12 @@ pub record Stays (c d : Card) : Type 0 where
   pub station : station d.plant ≡ station c.plant
   pub din1 : din1 d.plant ≡ din1 c.plant
   pub causes : causes d.plant ≡ causes c.plant
-  -- "A method is chosen at start"
-  pub method : method d.plant ≡ method c.plant
   -- "No message changes the identity"
   pub identity : d.identity ≡ c.identity
 
--- row n tells its own word: it is none of those that tell of the drive as a whole, by their rules, nor the mask, which no read tells
+-- row n tells its own word: it is none of those that tell of the drive as a whole, by their rules
 abbrev pub OwnWord : ℕ → Type 0
-OwnWord n = (n ≢ Inv-St-ack) × (n ≢ Inv-St) × (n ≢ Drive-Status) × (n ≢ Control-Mask)
+OwnWord n = (n ≢ Inv-St-ack) × (n ≢ Inv-St) × (n ≢ Drive-Status)
 
 -- a write of a different number
 abbrev pub Differs : Card → Change → ℕ → Type 0
@@ -113,7 +107,7 @@ pub record Elsewhere (c : Card) (change : Change) (n : ℕ) : Type 0 where
   pub scmd : Differs c change MODE → n ≢ SCMD
   pub own : OwnWord n
 
--- what a done write leaves, but of Drive Control and its mask
+-- what a done write leaves
 pub record WriteLeaves (c : Card) (change : Change) (d : Card) : Type 0 where
   -- a read of that row tells that word
   pub stored : Tells d change.row.0 change.word
@@ -127,10 +121,6 @@ pub record WriteLeaves (c : Card) (change : Change) (d : Card) : Type 0 where
   pub flags : flags d.plant ≡ flags c.plant
   pub sum : sum d.port.numbers ≡ 0
 
--- "clears flags whose cause has ended, but not 14"
-abbrev pub Acknowledged : (flags causes after : ℕ) → Type 0
-Acknowledged before causes after = (k : ℕ) → k < 32 → flagged k after ≡ both (flagged k before) (either (flagged k causes) (eqb k 14))
-
 -- "A broadcast SELECT of SCMD 0 while 14 is the only flag zeroes SioErr and clears 14", and nothing else
 pub record StopLeaves (c : Card) (change : Change) (d : Card) : Type 0 where
   pub nfo : protocol_of c ≡ 0
@@ -140,29 +130,6 @@ pub record StopLeaves (c : Card) (change : Change) (d : Card) : Type 0 where
   pub others : (n : ℕ) → n ≢ SioErr → OwnWord n → Unchanged c d n
   pub stays : Stays c d
   pub flags : flags d.plant ≡ 0
-  pub sum : sum d.port.numbers ≡ 0
-
--- what a done write of Drive Control, or of its mask, leaves
-pub record ControlLeaves (c : Card) (change : Change) (d : Card) : Type 0 where
-  -- "With 2": by bits
-  pub by_bits_lem : method c.plant ≡ 2
-  -- the word that is asked for: "the stored word AND the first, OR the second, then as a direct write". The first is the lower register
-  pub word : ℕ
-  pub direct : change.row.0 ≡ Drive-Control → word ≡ change.word
-  pub mask : change.row.0 ≡ Control-Mask → (k : ℕ) → flagged k word ≡ either (both (flagged k (control c.plant)) (flagged k (change.word % 0x10000))) (flagged k (change.word / 0x10000))
-  -- "Bit 7 is never stored": Drive Control tells the word without it
-  pub told : ℕ
-  pub without_7 : TakenOut Acknowledge word told
-  pub stored : Tells d Drive-Control told
-  -- "MODE is 3 while bit 14 is stored and 1 otherwise"
-  pub bus : is_set Bus word ≡ true → Tells d MODE 3
-  pub manual : is_set Bus word ≡ false → Tells d MODE 1
-  -- "a write with it set acknowledges as a read of 00E8 does"
-  pub acknowledged : is_set Acknowledge word ≡ true → Acknowledged (flags c.plant) (causes c.plant) (flags d.plant)
-  pub unacknowledged : is_set Acknowledge word ≡ false → flags d.plant ≡ flags c.plant
-  -- every other row tells what it told before
-  pub others : (n : ℕ) → n ≢ Drive-Control → n ≢ MODE → OwnWord n → Unchanged c d n
-  pub stays : Stays c d
   pub sum : sum d.port.numbers ≡ 0
 
 -- the card with these flags, Drive Status by them, and all else as it was but for the time sum
@@ -177,36 +144,30 @@ pub record ReadLeaves (c : Card) (n : ℕ) (d : Card) : Type 0 where
   pub others : n ≢ Inv-St-ack → n ≢ SioErr → besides d ≡ besides (card_sum 0 c)
   -- "A read of 00E8 or 02A4h .. then clears flags whose cause has ended, but not 14"
   pub acknowledged : n ≡ Inv-St-ack
-      → (x : ℕ) × (besides d ≡ besides (flagged_with x c)) × Acknowledged (flags c.plant) (causes c.plant) x
+      → (x : ℕ) × (besides d ≡ besides (flagged_with x c)) × ((k : ℕ) → k < 32 → flagged k x ≡ both (flagged k (flags c.plant)) (either (flagged k (causes c.plant)) (eqb k 14)))
   -- "Reading SioErr tells it, then zeroes it and flag 14"
   pub zeroed : n ≡ SioErr
       → (x : ℕ) × (besides d ≡ besides (flagged_with x (sio_err_zeroed c))) × TakenOut 14 (flags c.plant) x
 
--- "Running: MODE 2, DIN1 active, no fault flag; or MODE 3, SCMD not 0. Otherwise not."; "With 2, .. running is bit 0"
-pub data Runs (p : Plant) : Type 0 where
-  auto : method p ≢ 2 → mode p ≡ 2 → din1 p ≢ 0 → flags p ≡ 0 → Runs p
-  bus : method p ≢ 2 → mode p ≡ 3 → scmd p ≢ 0 → Runs p
-  bits : method p ≡ 2 → is_set SwitchOn (control p) ≡ true → Runs p
-
--- "Inv St is the lowest flagged number, else 24 at MODE 1, 33/34 at MODE 2 and 37/38 at MODE 3, standing/running"
+-- "Inv St is the lowest flagged number, else 24 at MODE 1, 33/34 at MODE 2 and 37/38 at MODE 3, standing/running". "Running: MODE 2, DIN1 active, no fault flag; or
+-- MODE 3, SCMD not 0"
 pub data InvSt (p : Plant) : ℕ → Type 0 where
   lowest : (n : ℕ) → flagged n (flags p) ≡ true → ((k : ℕ) → k < n → flagged k (flags p) ≡ false) → InvSt p n
   manual : flags p ≡ 0 → mode p ≡ 1 → InvSt p 24
-  auto_stands : flags p ≡ 0 → mode p ≡ 2 → (Runs p → ⊥) → InvSt p 33
-  auto_runs : flags p ≡ 0 → mode p ≡ 2 → Runs p → InvSt p 34
-  bus_stands : flags p ≡ 0 → mode p ≡ 3 → (Runs p → ⊥) → InvSt p 37
-  bus_runs : flags p ≡ 0 → mode p ≡ 3 → Runs p → InvSt p 38
+  auto_stands : flags p ≡ 0 → mode p ≡ 2 → active p ≡ false → InvSt p 33
+  auto_runs : flags p ≡ 0 → mode p ≡ 2 → active p ≡ true → InvSt p 34
+  bus_stands : flags p ≡ 0 → mode p ≡ 3 → scmd p ≡ 0 → InvSt p 37
+  bus_runs : flags p ≡ 0 → mode p ≡ 3 → scmd p ≢ 0 → InvSt p 38
 
--- "bits from source document 001: 0 ready (MODE 3, DIN1 active, no flag), 1 running, 3 a fault flag stands, 6 DIN1 inactive, 9 MODE 3; the others 0", in 16 bits;
--- "Bit 2 of the status word is now stored bit 3"
+-- "bits from source document 001: 0 ready (MODE 3, DIN1 active, no flag), 1 running, 3 a fault flag stands, 6 DIN1 inactive, 9 MODE 3; the others 0", in 16 bits
 pub record DriveStatus (p : Plant) (w : ℕ) : Type 0 where
   pub ready : (flagged 0 w ≡ true) ↔ ((mode p ≡ 3) × (din1 p ≢ 0) × (flags p ≡ 0))
-  pub running : (flagged 1 w ≡ true) ↔ Runs p
-  pub enabled : (flagged 2 w ≡ true) ↔ (is_set Enable (control p) ≡ true)
+  -- "Running: MODE 2, DIN1 active, no fault flag; or MODE 3, SCMD not 0. Otherwise not."
+  pub running : (flagged 1 w ≡ true) ↔ (((mode p ≡ 2) × (din1 p ≢ 0) × (flags p ≡ 0)) ⊎ ((mode p ≡ 3) × (scmd p ≢ 0)))
   pub fault : (flagged 3 w ≡ true) ↔ (flags p ≢ 0)
   pub inactive : (flagged 6 w ≡ true) ↔ (din1 p ≡ 0)
   pub bus : (flagged 9 w ≡ true) ↔ (mode p ≡ 3)
-  pub others : (k : ℕ) → k < 32 → k ≢ 0 → k ≢ 1 → k ≢ 2 → k ≢ 3 → k ≢ 6 → k ≢ 9 → flagged k w ≡ false
+  pub others : (k : ℕ) → k < 32 → k ≢ 0 → k ≢ 1 → k ≢ 3 → k ≢ 6 → k ≢ 9 → flagged k w ≡ false
   pub width : w < 2 ^ 16
 
 -- ---- the statement
@@ -216,12 +177,9 @@ pub record Effects : Type 0 where
       → (received (besides c) m room).outcome ≡ Served (Answers.Written (record { row = record { 0 = n }; word = w }))
   -- what a call that wrote leaves, whatever its bytes are. Where a flag stands, writes are refused (5), so what is done then is the broadcast stop
   pub write : (c : Card) → Sound c → (bytes : List ℕ) (room : ℕ) (change : Change) → (received c bytes room).outcome ≡ Served (Answers.Written change)
-      → is_control change.row.0 ≡ false → flags c.plant ≡ 0 → WriteLeaves c change (received c bytes room).card
+      → flags c.plant ≡ 0 → WriteLeaves c change (received c bytes room).card
   pub stop : (c : Card) → Sound c → (bytes : List ℕ) (room : ℕ) (change : Change) → (received c bytes room).outcome ≡ Served (Answers.Written change)
-      → is_control change.row.0 ≡ false → flags c.plant ≢ 0 → StopLeaves c change (received c bytes room).card
-  -- of Drive Control or its mask, whether a flag stands or not
-  pub control : (c : Card) → Sound c → (bytes : List ℕ) (room : ℕ) (change : Change) → (received c bytes room).outcome ≡ Served (Answers.Written change)
-      → is_control change.row.0 ≡ true → ControlLeaves c change (received c bytes room).card
+      → flags c.plant ≢ 0 → StopLeaves c change (received c bytes room).card
   -- what a call that told a row leaves, whatever its bytes are
   pub read : (c : Card) → Sound c → (bytes : List ℕ) (room n w : ℕ) → (received c bytes room).outcome ≡ Served (Answers.Told (record { 0 = n }) w)
       → ReadLeaves c n (received c bytes room).card
@@ -229,14 +187,11 @@ pub record Effects : Type 0 where
   pub identified : (c : Card) (bytes : List ℕ) (room : ℕ) (part : Part) → (received c bytes room).outcome ≡ Served (Answers.Identified part)
       → besides (received c bytes room).card ≡ besides (card_sum 0 c)
   -- whoever asks for a row is told it, one word whatever the message is: Inv St by its rule, SioErr, and any other by the word that stands at its line
-  pub row_told : (c : Card) → Sound c → (n : ℕ) → n < row_count → n ≢ Inv-St-ack → n ≢ Inv-St → n ≢ SioErr → n ≢ Control-Mask → Tells c n (get_or c.plant n 0)
-  -- "2 for a read of the mask": whoever asks for it is refused, and nothing changes but the time sum
-  pub mask_untold : (c : Card) → Sound c → (m : List ℕ) → Asks c Control-Mask m → (room : ℕ) → LongEnough c room
-      → (received (besides c) m room).outcome ≡ Served (Answers.Refused Refusals.NoRow)
+  pub row_told : (c : Card) → Sound c → (n : ℕ) → n < row_count → n ≢ Inv-St-ack → n ≢ Inv-St → n ≢ SioErr → Tells c n (get_or c.plant n 0)
   pub status : (c : Card) → Sound c → (n : ℕ) × InvSt c.plant n × Tells c Inv-St n × Tells c Inv-St-ack n
   pub sio_err : (c : Card) → Sound c → Tells c SioErr (sioerr c.port.numbers)
   -- Drive Status, where the word that stands there is right; that every routine keeps it so is in Status.antt
   pub drive_status : (c : Card) → Sound c → Right c.plant → (w : ℕ) × DriveStatus c.plant w × Tells c Drive-Status w
   -- the column Start of every row that has one; the two Inv St rows tell 24, "24 at MODE 1"
-  pub start : (protocol : Protocols.Protocol) (m : Method) (i : Identity) → SoundIdentity i → (n w : ℕ) → (line_at n).start ≡ Word w → Tells (started protocol m i) n w
-  pub start_status : (protocol : Protocols.Protocol) (m : Method) (i : Identity) → SoundIdentity i → Tells (started protocol m i) Inv-St-ack 24 × Tells (started protocol m i) Inv-St 24
+  pub start : (protocol : Protocols.Protocol) (i : Identity) → SoundIdentity i → (n w : ℕ) → (line_at n).start ≡ Word w → Tells (started protocol i) n w
+  pub start_status : (protocol : Protocols.Protocol) (i : Identity) → SoundIdentity i → Tells (started protocol i) Inv-St-ack 24 × Tells (started protocol i) Inv-St 24

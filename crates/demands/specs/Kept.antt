@@ -1,16 +1,14 @@
 -- What every routine keeps of a card. Start makes such a card, and no event and no bytes make another of it; so what the demands ask of a card holds of every
 -- card that the routines make. Assumes nothing.
-use Rattle.std.specs.Prelude.{◌≡◌, ◌⊎◌, ◌≢◌, true, false, not, [], ℕ, ◌^◌, ◌≤◌, ◌<◌, eqb, length, get_or}
+use Rattle.std.specs.Prelude.{◌≡◌, ◌⊎◌, ◌≢◌, true, not, [], ℕ, ◌^◌, ◌≤◌, ◌<◌, eqb, length, get_or}
 use Rattle.base.specs.Choice.{both, either}
 use Rattle.base.specs.Bytes.{Bytes}
 use Rattle.table.specs.Names.{MbAdr, SioTot}
 use Rattle.identity.specs.Identity.{Identity}
 use Rattle.port.specs.Port.{Numbers, sum}
-use Rattle.drive.specs.declared.plant.Method.{Method}
 use Rattle.drive.specs.Plant.{Plant}
 use Rattle.drive.specs.Plant as Plants
 use Rattle.drive.specs.Flags.{flagged}
-use Rattle.drive.specs.Bits.{by_bits, is_set, Bus, Enable, SwitchOn, Acknowledge}
 use Rattle.drive.specs.Status.{active}
 use Rattle.drive.specs.Events.{is_fault}
 use Rattle.pending.specs.Held.{held}
@@ -57,32 +55,8 @@ pub record SoundPlant (p : Plant) : Type 0 where
   pub station : Within 1 247 (Plants.station p)
   pub causes : OnlyFaults (Plants.causes p)
   pub flags : OnlyFaultsAnd14 (Plants.flags p)
-  -- by method 1: 14 is raised at MODE 3, and while it stands no write changes MODE (5)
-  pub bus : by_bits p ≡ false → flagged 14 (Plants.flags p) ≡ true → Plants.mode p ≡ 3
-
--- ---- control by bits
--- by method 2, of any plant at all
-pub record Steered (p : Plant) : Type 0 where
-  -- "MODE is 3 while bit 14 is stored and 1 otherwise"
-  pub bus : is_set Bus (Plants.control p) ≡ true → Plants.mode p ≡ 3
-  pub manual : is_set Bus (Plants.control p) ≡ false → Plants.mode p ≡ 1
-  -- "7 for a write to the other method's rows"
-  pub scmd : Plants.scmd p ≡ 0
-  -- "Bit 3 may be written only if 14 was stored before and is written too"; "A fault clears 0 and 3", and while a flag stands neither is written
-  pub enabled : is_set Enable (Plants.control p) ≡ true → (is_set Bus (Plants.control p) ≡ true) × (Plants.flags p ≡ 0)
-  -- "bit 0 only if 3 was stored before and is written too, and DIN1 is active"; "so does DIN1 going inactive for bit 0"
-  pub on : is_set SwitchOn (Plants.control p) ≡ true → (is_set Enable (Plants.control p) ≡ true) × (active p ≡ true)
-  -- "Bit 7 is never stored"
-  pub acknowledge : is_set Acknowledge (Plants.control p) ≡ false
-
-pub record Controlled (p : Plant) : Type 0 where
-  -- the array's length, which its type tells
-  pub sized : Plants.Sized p
-  -- "A method is chosen at start: 1, MODE and SCMD, or 2, these bits"
-  pub method : Within 1 2 (Plants.method p)
-  pub by_bits_lem : by_bits p ≡ true → Steered p
-  -- by method 1 nothing is stored: "The stored word starts at 0"
-  pub by_scmd : by_bits p ≡ false → Plants.control p ≡ 0
+  -- 14 is raised at MODE 3, and while it stands no write changes MODE (5)
+  pub bus : flagged 14 (Plants.flags p) ≡ true → Plants.mode p ≡ 3
 
 -- ---- the port
 -- "if the bytes left could still become one, they are pending": what is pending could become a message of the port's protocol. Of RTU nothing is
@@ -110,11 +84,10 @@ pub record Sound (c : Card) : Type 0 where
   pub protocol : protocol_of c ≤ 2
   pub sum : SumRight c.plant c.port.numbers
   pub identity : SoundIdentity c.identity
-  pub control : Controlled c.plant
 
 -- "given at start", "No message changes the identity", and nothing else does
 pub record IdentityKept : Type 0 where
-  pub start : (protocol : Protocols.Protocol) (m : Method) (i : Identity) → (started protocol m i).identity ≡ i
+  pub start : (protocol : Protocols.Protocol) (i : Identity) → (started protocol i).identity ≡ i
   pub each : (c d : Card) → Step c d → d.identity ≡ c.identity
 
 -- ---- SiAdr
@@ -128,21 +101,13 @@ Healed address = (address ≢ 0) × (address ≢ 95)
 
 -- of any card at all, sound or not. (The array's length is what its type tells.)
 pub record AddressKept : Type 0 where
-  pub start : (protocol : Protocols.Protocol) (m : Method) (i : Identity) → OwnAddress (Plants.si_adr (started protocol m i).plant)
+  pub start : (protocol : Protocols.Protocol) (i : Identity) → OwnAddress (Plants.si_adr (started protocol i).plant)
   pub each : (c d : Card) → Step c d → OwnAddress (Plants.si_adr c.plant) → OwnAddress (Plants.si_adr d.plant)
   -- "A restart that finds 0 or 95 kept from before puts 1 there": after it SiAdr is neither, whatever it was
   pub restart : (c : Card) → Plants.Sized c.plant → Healed (Plants.si_adr (restarted c).plant)
 
--- "A method is chosen at start", and nothing else changes it; and of any card at all that keeps the rules of control, sound or not, each routine keeps them. (The array's length is
--- what its type tells.)
-pub record ControlKept : Type 0 where
-  pub start : (protocol : Protocols.Protocol) (m : Method) (i : Identity) → Plants.method (started protocol m i).plant ≡ Plants.method_number m
-  pub method : (c d : Card) → Step c d → Plants.Sized c.plant → Plants.method d.plant ≡ Plants.method c.plant
-  pub each : (c d : Card) → Step c d → Controlled c.plant → Controlled d.plant
-
 pub record Kept : Type 0 where
-  pub start : (protocol : Protocols.Protocol) (m : Method) (i : Identity) → SoundIdentity i → Sound (started protocol m i)
+  pub start : (protocol : Protocols.Protocol) (i : Identity) → SoundIdentity i → Sound (started protocol i)
   pub each : (c d : Card) → Step c d → Sound c → Sound d
   pub identity : IdentityKept
   pub address : AddressKept
-  pub control : ControlKept

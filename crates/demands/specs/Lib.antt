@@ -8,8 +8,6 @@
 --   Silence   a card at MODE 3 stops by itself when its master is dead
 --   Effects   what a message does, by what a following read tells
 --   Status    the status word that is kept is right, whatever came before
---   Steps     steered by bits, no step on the way to a running motor can be skipped
---   Unmoved   steered by MODE and SCMD, a card notices nothing of control by bits
 --   Demand2   what the master wrote arrives, and what was answered is heard
 --   Identity  what a master is told that asks who the card is
 --   Letters   small letters are taken, capitals are written
@@ -25,8 +23,6 @@ pub mod Reached
 pub mod Silence
 pub mod Effects
 pub mod Status
-pub mod Steps
-pub mod Unmoved
 pub mod Demand2
 pub mod Identity
 pub mod Letters

@@ -6,7 +6,6 @@ use Rattle.std.specs.Prelude.{◌≡◌, ◌⊎◌, ◌≢◌, Bool, true, false
 use Rattle.table.specs.Names.{SioTot}
 use Rattle.identity.specs.Identity.{Identity}
 use Rattle.port.specs.Port.{sioerr}
-use Rattle.drive.specs.declared.plant.Method.{Method}
 use Rattle.drive.specs.Plant.{Sized, mode, flags}
 use Rattle.drive.specs.Flags.{flagged}
 use Rattle.drive.specs.Status.{runs}
@@ -46,7 +45,7 @@ pub record Stopped (c : Card) : Type 0 where
 
 pub record SilenceStops : Type 0 where
   -- "The start number becomes 50 (5 seconds)"
-  pub start : (protocol : Protocols.Protocol) (m : Method) (i : Identity) → get_or (started protocol m i).plant SioTot 0 ≡ 50
+  pub start : (protocol : Protocols.Protocol) (i : Identity) → get_or (started protocol i).plant SioTot 0 ≡ 50
   -- from every card at MODE 3 whose SioTot is not 0: once the ticks add to more than SioTot. (The arrays' lengths are what their types tell.)
   pub stops : (c d : Card) (tenths : ℕ) → Sized c.plant → length c.port.numbers ≡ 3 → mode c.plant ≡ 3 → get_or c.plant SioTot 0 ≢ 0
       → Silence c tenths d → get_or c.plant SioTot 0 < tenths → Stopped d

@@ -6,7 +6,6 @@ use Rattle.std.specs.Prelude.{◌≡◌, ℕ}
 use Rattle.table.specs.Names.{Drive-Status}
 use Rattle.table.specs.Find.{row_of_span}
 use Rattle.identity.specs.Identity.{Identity}
-use Rattle.drive.specs.declared.plant.Method.{Method}
 use Rattle.drive.specs.Plant.{Plant, Sized}
 use Rattle.drive.specs.Status.{Right}
 use Rattle.permit.specs.Permit.{permit_number, permit_of}
@@ -26,11 +25,11 @@ pub record StatusKept : Type 0 where
   pub register : row_of_span 0x0258 1 ≡ row Drive-Status
   -- "Refusals: 3 on a write", whatever the card and the word
   pub write : (p : Plant) (w : ℕ) → permit_number (permit_of p Drive-Status w) ≡ 3
-  pub start : (protocol : Protocols.Protocol) (m : Method) (i : Identity) → Right (started protocol m i).plant
+  pub start : (protocol : Protocols.Protocol) (i : Identity) → Right (started protocol i).plant
   pub each : (c d : Card) → Step c d → Right c.plant → Right d.plant
   -- a restart makes it right, whatever it was
   pub restart : (c : Card) → Sized c.plant → Right (restarted c).plant
   -- after any run of calls and events
   pub told : (c d : Card) → Sound c → Right c.plant → Run c d → ToldRight d
   -- and so, from start on, always
-  pub always : (protocol : Protocols.Protocol) (m : Method) (i : Identity) → SoundIdentity i → (c : Card) → Run (started protocol m i) c → ToldRight c
+  pub always : (protocol : Protocols.Protocol) (i : Identity) → SoundIdentity i → (c : Card) → Run (started protocol i) c → ToldRight c

@@ -12,33 +12,31 @@ use borrow.Author.Tests.{ne_eqb, eqb-false, le-leb, lt-leb, leb-true}
 use Rattle.base.specs.Choice.{both, either}
 use Rattle.base.proofs.Tests.{pick_both, both_out, either_out, either_right}
 use Rattle.drive.specs.declared.events.Measured.{Measured}
-use Rattle.drive.specs.Plant.{Plant, mode, scmd, control, din1, causes, flags, with_mode, with_scmd, with_control, with_din1, with_causes}
-use Rattle.drive.specs.Flags.{only, all_but}
-use Rattle.drive.specs.Bits.{is_set, without, Enable, Acknowledge, disabled, switched_off}
-use Rattle.drive.specs.Status.{active, flag_stands, runs_by_scmd, runs, bit, ready, status_word, righted}
-use Rattle.drive.specs.Faults.{halted, flag_raised}
+use Rattle.drive.specs.Plant.{Plant, mode, scmd, din1, causes, flags, with_causes}
+use Rattle.drive.specs.Flags.{only}
+use Rattle.drive.specs.Status.{active, flag_stands, runs, bit, ready, status_word, righted}
+use Rattle.drive.specs.Faults.{flag_raised}
 use Rattle.drive.specs.Events.{healed, is_fault, raised, ended, switched, with_measured}
-use Rattle.drive.specs.Control.{mode_by, acknowledged_by, steered}
 
--- ---- running by MODE and SCMD
+-- ---- running
 twice : (t : Bool) → t ≡ either (not (not t)) false
 twice true = refl
 twice false = refl
 
-pub runs_auto : (p : Plant) → mode p ≡ 2 → (din1 p ≡ 0 → ⊥) → eqb (flags p) 0 ≡ runs_by_scmd p
-unfolding runs_by_scmd active flag_stands
+pub runs_auto : (p : Plant) → mode p ≡ 2 → (din1 p ≡ 0 → ⊥) → eqb (flags p) 0 ≡ runs p
+unfolding runs active flag_stands
 runs_auto p m a = simp (m, ne_eqb _ _ a) (twice (eqb (flags p) 0))
 
-pub runs_inactive : (p : Plant) → mode p ≡ 2 → din1 p ≡ 0 → false ≡ runs_by_scmd p
-unfolding runs_by_scmd active
+pub runs_inactive : (p : Plant) → mode p ≡ 2 → din1 p ≡ 0 → false ≡ runs p
+unfolding runs active
 runs_inactive p m a = simp (m, a)
 
-pub runs_bus : (p : Plant) → mode p ≡ 3 → not (eqb (scmd p) 0) ≡ runs_by_scmd p
-unfolding runs_by_scmd
+pub runs_bus : (p : Plant) → mode p ≡ 3 → not (eqb (scmd p) 0) ≡ runs p
+unfolding runs
 runs_bus p m = simp m
 
-pub runs_not : (p : Plant) → (mode p ≡ 2 → ⊥) → (mode p ≡ 3 → ⊥) → false ≡ runs_by_scmd p
-unfolding runs_by_scmd
+pub runs_not : (p : Plant) → (mode p ≡ 2 → ⊥) → (mode p ≡ 3 → ⊥) → false ≡ runs p
+unfolding runs
 runs_not p a b = simp (ne_eqb _ _ a, ne_eqb _ _ b)
 
 -- ---- faults
@@ -95,11 +93,6 @@ pub fault_past : (n : ℕ) → 24 ≤ n → false ≡ is_fault n
 unfolding is_fault
 fault_past n a = simp (le-leb 1 n (omega arith), lt-leb n 13 (omega arith), le-leb 16 n (omega arith), lt-leb n 23 (omega arith))
 
--- the word that is stored first loses enable and switch on, which leaves the flags as they were
-pub flag_raised_lem : (p q r : Plant) (mask : ℕ) → q ≡ disabled p → r ≡ halted (bit_or (flags p) mask) q → r ≡ flag_raised mask p
-unfolding flag_raised
-flag_raised_lem p q r mask e d = d ∙ ap (halted (bit_or (flags p) mask)) e
-
 -- ---- SiAdr after a restart: 0 and 95 become 1, and any other number stays
 pub healed_these : (a : ℕ) → (a ≡ 0) ⊎ (a ≡ 95) → healed a ≡ 1
 unfolding healed
@@ -115,79 +108,59 @@ pub healed_both : (Q : ℕ → Type 0) (a : ℕ) → Q 1 → (a ≢ 0 → a ≢ 
 unfolding healed
 healed_both Q a one other = pick_both Q (eqb a 0) (λ _. one) (λ n. pick_both Q (eqb a 95) (λ _. one) (λ m. other (eqb-false a 0 n) (eqb-false a 95 m)))
 
--- ---- Drive Status, by four tests: no flag stands, DIN1 is inactive, enable is stored, the drive runs
--- the code's two bits that hold the drive, with the two that it puts beside them, and the definition's word at MODE 3 and at another
+-- ---- Drive Status, by three tests: no flag stands, DIN1 is inactive, SCMD is 0
+-- the code's two bits that hold the drive, and the definition's word at MODE 2, at MODE 3 and at another
 abbrev held : Bool → Bool → ℕ
 held calm inactive = bit_or (bit 3 (not calm)) (bit 6 inactive)
 
-abbrev beside : Bool → Bool → Bool → Bool → ℕ
-beside calm inactive enabled running = bit_or (bit_or (held calm inactive) (bit 2 enabled)) (bit 1 running)
-
-abbrev word : Bool → Bool → Bool → Bool → Bool → ℕ
-word bus calm inactive enabled running =
-    bit_or (bit_or (bit_or (bit_or (bit_or
+abbrev word : (auto bus : Bool) → Bool → Bool → Bool → ℕ
+word auto bus calm inactive still =
+    bit_or (bit_or (bit_or (bit_or
     (bit 0 (both bus (both (not inactive) (not (not calm)))))
-    (bit 1 running))
-    (bit 2 enabled))
+    (bit 1 (either (both auto (both (not inactive) (not (not calm)))) (both bus (not still)))))
     (bit 3 (not calm)))
     (bit 6 (not (not inactive))))
     (bit 9 bus)
 
 -- the code's word is the same, in every case
-bus_word : (calm inactive enabled running : Bool)
-    → bit_or (bit_or (beside calm inactive enabled running) 512) (bit 0 (eqb (held calm inactive) 0)) ≡ word true calm inactive enabled running
-bus_word true true true true = refl
-bus_word true true true false = refl
-bus_word true true false true = refl
-bus_word true true false false = refl
-bus_word true false true true = refl
-bus_word true false true false = refl
-bus_word true false false true = refl
-bus_word true false false false = refl
-bus_word false true true true = refl
-bus_word false true true false = refl
-bus_word false true false true = refl
-bus_word false true false false = refl
-bus_word false false true true = refl
-bus_word false false true false = refl
-bus_word false false false true = refl
-bus_word false false false false = refl
+bus_word : (calm inactive still : Bool) → bit_or (bit_or (bit_or (held calm inactive) 512) (bit 0 (eqb (held calm inactive) 0))) (bit 1 (not still)) ≡ word false true calm inactive still
+bus_word true true true = refl
+bus_word true true false = refl
+bus_word true false true = refl
+bus_word true false false = refl
+bus_word false true true = refl
+bus_word false true false = refl
+bus_word false false true = refl
+bus_word false false false = refl
 
-other_word : (calm inactive enabled running : Bool) → beside calm inactive enabled running ≡ word false calm inactive enabled running
-other_word true true true true = refl
-other_word true true true false = refl
-other_word true true false true = refl
-other_word true true false false = refl
-other_word true false true true = refl
-other_word true false true false = refl
-other_word true false false true = refl
-other_word true false false false = refl
-other_word false true true true = refl
-other_word false true true false = refl
-other_word false true false true = refl
-other_word false true false false = refl
-other_word false false true true = refl
-other_word false false true false = refl
-other_word false false false true = refl
-other_word false false false false = refl
+auto_word : (calm inactive still : Bool) → bit_or (held calm inactive) (bit 1 (eqb (held calm inactive) 0)) ≡ word true false calm inactive still
+auto_word true true still = refl
+auto_word true false still = refl
+auto_word false true still = refl
+auto_word false false still = refl
 
-module _ (p : Plant) (f a e n : ℕ) (moves : Bool) (fault : f ≡ bit 3 (not (eqb (flags p) 0))) (inactive : a ≡ bit 6 (eqb (din1 p) 0))
-    (enabled : e ≡ bit 2 (is_set Enable (control p))) (running : moves ≡ runs p) (on : n ≡ bit 1 moves) where
-  pub word_bus : (r : ℕ) → mode p ≡ 3 → r ≡ bit 0 (eqb (bit_or f a) 0) → bit_or (bit_or (bit_or (bit_or (bit_or f a) e) n) 512) r ≡ status_word p
-  unfolding status_word ready active flag_stands
-  word_bus r m q = rw (q, on, running, enabled, fault, inactive, m) (bus_word (eqb (flags p) 0) (eqb (din1 p) 0) (is_set Enable (control p)) (runs p))
+other_word : (calm inactive still : Bool) → held calm inactive ≡ word false false calm inactive still
+other_word true true still = refl
+other_word true false still = refl
+other_word false true still = refl
+other_word false false still = refl
 
-  pub word_other : (mode p ≡ 3 → ⊥) → bit_or (bit_or (bit_or f a) e) n ≡ status_word p
-  unfolding status_word ready active flag_stands
-  word_other m = rw (on, running, enabled, fault, inactive, ne_eqb (mode p) 3 m) (other_word (eqb (flags p) 0) (eqb (din1 p) 0) (is_set Enable (control p)) (runs p))
+module _ (p : Plant) (f a : ℕ) (fault : f ≡ bit 3 (not (eqb (flags p) 0))) (inactive : a ≡ bit 6 (eqb (din1 p) 0)) where
+  pub word_bus : (r s : ℕ) → mode p ≡ 3 → r ≡ bit 0 (eqb (bit_or f a) 0) → s ≡ bit 1 (not (eqb (scmd p) 0)) → bit_or (bit_or (bit_or (bit_or f a) 512) r) s ≡ status_word p
+  unfolding status_word ready runs active flag_stands
+  word_bus r s m e g = rw (e, g, fault, inactive, m) (bus_word (eqb (flags p) 0) (eqb (din1 p) 0) (eqb (scmd p) 0))
+
+  pub word_auto : (r : ℕ) → mode p ≡ 2 → r ≡ bit 1 (eqb (bit_or f a) 0) → bit_or (bit_or f a) r ≡ status_word p
+  unfolding status_word ready runs active flag_stands
+  word_auto r m e = rw (e, fault, inactive, m) (auto_word (eqb (flags p) 0) (eqb (din1 p) 0) (eqb (scmd p) 0))
+
+  pub word_other : (mode p ≡ 2 → ⊥) → (mode p ≡ 3 → ⊥) → bit_or f a ≡ status_word p
+  unfolding status_word ready runs active flag_stands
+  word_other m n = rw (fault, inactive, ne_eqb (mode p) 2 m, ne_eqb (mode p) 3 n) (other_word (eqb (flags p) 0) (eqb (din1 p) 0) (eqb (scmd p) 0))
 
 -- ---- the two cases of DIN1
 pub switched_at : (p r : Plant) (active t : Bool) → active ≡ t → r ≡ switched t p → r ≡ switched active p
 switched_at p r active t h q = q ∙ ap (λ (a : Bool). switched a p) (sym h)
-
-pub switched_inactive : (p q : Plant) (active : Bool) → active ≡ false → q ≡ switched_off (with_din1 0 p) → with_scmd 0 q ≡ switched active p
-unfolding switched
-switched_inactive p q active h e = rw (h, e)
 
 -- ---- a change, and then the word is made right
 pub right_after : (q r x : Plant) → q ≡ x → r ≡ righted q → r ≡ righted x
@@ -196,8 +169,3 @@ right_after q r x e d = d ∙ ap righted e
 -- ---- an arm of a `match` on what is measured
 pub measured_at : (p r : Plant) (measured k : Measured) → measured ≡ k → r ≡ with_measured k p → r ≡ with_measured measured p
 measured_at p r measured k h q = q ∙ ap (λ (m : Measured). with_measured m p) (sym h)
-
--- ---- a word of Drive Control
-pub steered_by : (p q r : Plant) (word m : ℕ) → q ≡ acknowledged_by word p → m ≡ mode_by word → r ≡ righted (with_mode m (with_control (bit_and word (all_but Acknowledge)) q)) → r ≡ steered word p
-unfolding steered without
-steered_by p q r word m a e d = d ∙ rw (e, a)

@@ -5,9 +5,8 @@ use Rattle.base.specs.Choice.{pick, both, either}
 use Rattle.drive.specs.declared.events.Measured.{Measured}
 use Rattle.drive.specs.declared.events.Measured.TheVariants.{Frq, Rms, Optime}
 use Rattle.table.specs.Names.{MbAdr, FrqAct, I-rms, OpTime}
-use Rattle.drive.specs.Plant.{Plant, si_adr, mode, causes, with_si_adr, with_mode, with_scmd, with_control, with_din1, with_causes, with_flags, with_station}
+use Rattle.drive.specs.Plant.{Plant, si_adr, mode, causes, with_si_adr, with_mode, with_scmd, with_din1, with_causes, with_flags, with_station}
 use Rattle.drive.specs.Flags.{only, all_but}
-use Rattle.drive.specs.Bits.{switched_off}
 use Rattle.drive.specs.Status.{righted}
 use Rattle.drive.specs.Faults.{flag_raised}
 
@@ -16,9 +15,9 @@ unfoldable pub healed : ℕ → ℕ
 healed address = pick (eqb address 0) 1 (pick (eqb address 95) 1 address)
 
 -- "Restart keeps rows 301 to 322, DIN1, causes and measured numbers", but for a SiAdr of 0 or 95; "flags become the standing causes; MODE 1, SCMD .. 0";
--- "The stored word .. restart clears it"; "ours is what MbAdr held at the last start or restart"
+-- "ours is what MbAdr held at the last start or restart"
 unfoldable pub restarted : Plant → Plant
-restarted p = righted (with_mode 1 (with_scmd 0 (with_control 0 (with_flags (causes p) (with_si_adr (healed (si_adr p)) (with_station (get_or p MbAdr 0) p))))))
+restarted p = righted (with_mode 1 (with_scmd 0 (with_flags (causes p) (with_si_adr (healed (si_adr p)) (with_station (get_or p MbAdr 0) p)))))
 
 -- "Faults 1 to 13 and 16 to 23"
 unfoldable pub is_fault : ℕ → Bool
@@ -45,10 +44,10 @@ ended n p = event n (with_causes (bit_and (causes p) (all_but n)) p) p
 unfoldable pub port_fault : Plant → Plant
 port_fault p = pick (eqb (mode p) 3) (flag_raised (only 14) p) p
 
--- "SCMD becomes 0 when DIN1 goes inactive", and bit 0 of the stored word is cleared
+-- "SCMD becomes 0 when DIN1 goes inactive"
 unfoldable pub switched : Bool → Plant → Plant
 switched true p = with_din1 1 p
-switched false p = with_scmd 0 (switched_off (with_din1 0 p))
+switched false p = with_scmd 0 (with_din1 0 p)
 
 unfoldable pub with_active : Bool → Plant → Plant
 with_active active p = righted (switched active p)

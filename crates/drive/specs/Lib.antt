@@ -1,9 +1,7 @@
 pub mod Plant
 pub mod Flags
-pub mod Bits
 pub mod Status
 pub mod Faults
 pub mod Events
-pub mod Control
 pub mod Flagging
 pub mod Cases

@@ -1,10 +1,8 @@
 -- The plant: one list of words. Each row's word stands at its line in the table, under the row's name; behind the rows stand the numbers that are no rows. The
--- lines of Inv St, which is worked out, of SioErr, which is the port's, and of the mask, which is only written, hold nothing. Assumes nothing.
+-- lines of Inv St, which is worked out, and of SioErr, which is the port's, hold nothing. Assumes nothing.
 use Rattle.std.specs.Prelude.{◌≡◌, List, [], ◌∷◌, ◌++◌, ℕ, ◌+◌, length, get_or, set}
-use Rattle.table.specs.Names.{SiAdr, MbAdr, MODE, SCMD, Drive-Status, Drive-Control, row_count}
+use Rattle.table.specs.Names.{SiAdr, MbAdr, MODE, SCMD, Drive-Status, row_count}
 use Rattle.table.specs.Table.{start_words}
-use Rattle.drive.specs.declared.plant.Method.{Method}
-use Rattle.drive.specs.declared.plant.Method.TheVariants.{Scmd, Bits}
 
 abbrev pub Plant : Type 0
 Plant = List ℕ
@@ -23,13 +21,9 @@ Flags = row_count + 2
 abbrev pub Station : ℕ
 Station = row_count + 3
 
--- the method, chosen at start
-abbrev pub MethodAt : ℕ
-MethodAt = row_count + 4
-
 -- the array's length, which its type tells
 abbrev pub Sized : Plant → Type 0
-Sized p = length p ≡ row_count + 5
+Sized p = length p ≡ row_count + 4
 
 -- ---- a number of the plant
 abbrev pub si_adr : Plant → ℕ
@@ -45,10 +39,6 @@ scmd p = get_or p SCMD 0
 abbrev pub drive_status : Plant → ℕ
 drive_status p = get_or p Drive-Status 0
 
--- the word that is stored for Drive Control
-abbrev pub control : Plant → ℕ
-control p = get_or p Drive-Control 0
-
 abbrev pub din1 : Plant → ℕ
 din1 p = get_or p DIN1 0
 
@@ -60,9 +50,6 @@ flags p = get_or p Flags 0
 
 abbrev pub station : Plant → ℕ
 station p = get_or p Station 0
-
-abbrev pub method : Plant → ℕ
-method p = get_or p MethodAt 0
 
 -- ---- the plant with one number changed, and all else as it was
 abbrev pub with_si_adr : ℕ → Plant → Plant
@@ -77,9 +64,6 @@ with_scmd x p = set p SCMD x
 abbrev pub with_drive_status : ℕ → Plant → Plant
 with_drive_status x p = set p Drive-Status x
 
-abbrev pub with_control : ℕ → Plant → Plant
-with_control x p = set p Drive-Control x
-
 abbrev pub with_din1 : ℕ → Plant → Plant
 with_din1 x p = set p DIN1 x
 
@@ -92,11 +76,6 @@ with_flags x p = set p Flags x
 abbrev pub with_station : ℕ → Plant → Plant
 with_station x p = set p Station x
 
--- ---- "A method is chosen at start: 1, MODE and SCMD, or 2, these bits"
-abbrev pub method_number : Method → ℕ
-method_number Scmd = 1
-method_number Bits = 2
-
--- the column Start; "At start DIN1 is inactive and no cause stands"
-unfoldable pub started : Method → Plant
-started m = start_words ++ (0 ∷ 0 ∷ 0 ∷ get_or start_words MbAdr 0 ∷ method_number m ∷ [])
+-- ---- the column Start; "At start DIN1 is inactive and no cause stands"
+unfoldable pub started : Plant
+started = start_words ++ (0 ∷ 0 ∷ 0 ∷ get_or start_words MbAdr 0 ∷ [])

@@ -2,7 +2,6 @@
 ghost use Rattle.std.specs.Prelude.{◌≡◌};
 ghost use Rattle.drive.specs.Events.{is_fault, raised, ended, port_fault, switched, with_active, with_measured};
 
-use crate::bits::switch_off;
 use crate::faults::{FLAG_14, raise_flags};
 use crate::plant::{CAUSES, DIN1, Plant};
 use crate::status::right_status;
@@ -62,7 +61,7 @@ pub fn port_fault(plant: &mut Plant)
     }
 }
 
-// DIN1 is stored; where it is inactive, SCMD is 0 and switch on is cleared.
+// DIN1 is stored, and SCMD is 0 where it is inactive.
 fn switch(plant: &mut Plant, active: bool)
     ensures { plant.new ≡ switched active plant.old }
 {
@@ -71,7 +70,6 @@ fn switch(plant: &mut Plant, active: bool)
         return;
     }
     plant[DIN1] = 0;
-    switch_off(plant);
     plant[SCMD] = 0;
 }
 

@@ -2,7 +2,6 @@
 ghost use Rattle.std.specs.Prelude.{◌≡◌};
 ghost use Rattle.drive.specs.Faults.{reflagged, halted, flag_raised, acknowledged, without14, only14, stopped};
 
-use crate::bits::disable;
 use crate::plant::{CAUSES, FLAGS, Plant};
 use crate::status::right_status;
 use table::names::SCMD;
@@ -29,12 +28,11 @@ fn halt(plant: &mut Plant, flags: u32)
     right_status(plant);
 }
 
-// Raises the flags of a mask, which stops the drive, by either method.
+// Raises the flags of a mask, which stops the drive.
 pub(crate) fn raise_flags(plant: &mut Plant, mask: u32)
     ensures { plant.new ≡ flag_raised mask plant.old }
 {
     let raised = plant[FLAGS] | mask;
-    disable(plant);
     halt(plant, raised);
 }
 
@@ -61,7 +59,7 @@ pub fn only_14(plant: &Plant) -> bool
     plant[FLAGS] == FLAG_14
 }
 
-// What the broadcast stop does: flag 14 is cleared, SCMD is 0. No bit of Drive Control changes.
+// What the broadcast stop does: flag 14 is cleared, SCMD is 0.
 pub fn stop(plant: &mut Plant)
     ensures { plant.new ≡ stopped plant.old }
 {

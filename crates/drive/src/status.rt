@@ -1,24 +1,21 @@
 // What the drive tells of itself: whether a flag stands, whether it runs, and Drive Status, which is kept.
 ghost use Rattle.std.specs.Prelude.{◌≡◌};
 ghost use Rattle.base.specs.Choice.{pick};
-ghost use Rattle.drive.specs.Status.{flag_stands, runs_by_scmd, runs, status_word, righted};
+ghost use Rattle.drive.specs.Status.{flag_stands, runs, status_word, righted};
 
-use crate::bits::{ENABLE, SWITCH_ON, by_bits};
 use crate::plant::{DIN1, FLAGS, Plant};
-use table::names::{DRIVE_CONTROL, DRIVE_STATUS, MODE, SCMD};
+use table::names::{DRIVE_STATUS, MODE, SCMD};
 
 // The bits of Drive Status, each as its mask. The others are 0.
 const READY: u32 = 0x0001;
 
 const RUNNING: u32 = 0x0002;
 
-const ENABLED: u32 = 0x0004;
-
 const FAULT: u32 = 0x0008;
 
 const INACTIVE: u32 = 0x0040;
 
-const MODE_3: u32 = 0x0200;
+const BUS: u32 = 0x0200;
 
 // Whether a fault flag stands, 14 included.
 pub fn flag_stands(plant: &Plant) -> bool
@@ -27,19 +24,9 @@ pub fn flag_stands(plant: &Plant) -> bool
     plant[FLAGS] != 0
 }
 
-// Whether the drive runs: by bits where bit 0 is stored, else by MODE and SCMD.
+// Whether the drive runs: at MODE 2 by DIN1 while no flag stands, at MODE 3 by SCMD.
 pub fn running(plant: &Plant) -> bool
     ensures { result ≡ runs plant.now }
-{
-    if by_bits(plant) {
-        return plant[DRIVE_CONTROL] & SWITCH_ON != 0;
-    }
-    runs_by_scmd(plant)
-}
-
-// By method 1 it runs at MODE 2 by DIN1 while no flag stands, and at MODE 3 by SCMD.
-fn runs_by_scmd(plant: &Plant) -> bool
-    ensures { result ≡ runs_by_scmd plant.now }
 {
     if plant[MODE] == 2 {
         if plant[DIN1] != 0 {
@@ -63,17 +50,18 @@ fn bit(mask: u32, test: bool) -> u32
     0
 }
 
-// Drive Status by the rules. Where DIN1 is active and no flag stands, nothing holds the drive: at MODE 3 it is ready.
+// Drive Status by the rules. Where DIN1 is active and no flag stands, nothing holds the drive: at MODE 3 it is ready, at MODE 2 it runs.
 fn status_word(plant: &Plant) -> u32
     ensures { result ≡ status_word plant.now }
 {
     let held = bit(FAULT, plant[FLAGS] != 0) | bit(INACTIVE, plant[DIN1] == 0);
-    let enabled = bit(ENABLED, plant[DRIVE_CONTROL] & ENABLE != 0);
-    let word = held | enabled | bit(RUNNING, running(plant));
     if plant[MODE] == 3 {
-        return word | MODE_3 | bit(READY, held == 0);
+        return held | BUS | bit(READY, held == 0) | bit(RUNNING, plant[SCMD] != 0);
     }
-    word
+    if plant[MODE] == 2 {
+        return held | bit(RUNNING, held == 0);
+    }
+    held
 }
 
 // Makes the stored Drive Status right. Every change of the drive ends in this, and nothing else writes the word.

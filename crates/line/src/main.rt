@@ -1,25 +1,15 @@
-// A card on a serial device: `line PROTOCOL DEVICE [method M] [din1]`, where PROTOCOL is `nfo`, `rtu` or `ascii`, and M is 1, MODE and SCMD, or 2, Drive Control's
-// bits; without it the method is 1. A card on a PC has no terminal, so the word `din1` stands for a closed switch: DIN1 is active from the start.
+// A card on a serial device: `line PROTOCOL DEVICE`, where PROTOCOL is `nfo`, `rtu` or `ascii`. It reads the device to its end, writes each reply
+// on it, and prints a line for each message taken, as `session` does. A read is a scrap of the stream; for Modbus RTU it is a frame, so the port
+// is set up to end a read at silence. Before a scrap is served, the card is handed the tenths that have passed: it is seen by its messages alone,
+// so that is early enough.
 //
-// It reads the device to its end, writes each reply on it, and prints a line for each message taken, as `session` does. A read is a scrap of the stream; for
-// Modbus RTU it is a frame, so the port is set up to end a read at silence. Before a scrap is served, the card is handed the tenths that have passed: it is seen by
-// its messages alone, so that is early enough.
-//
-// Wrong arguments are told on standard error, and no device is opened then: the file `args` has a method that there is not.
-mod words;
-
-ghost use Rattle.std.specs.Prelude.{◌≡◌};
-ghost use Rattle.card.specs.State.{started};
-ghost use Rattle.card.specs.Events.{din1_set};
-
+// Wrong arguments are told on standard error, and no device is opened then: the file `args` has a protocol that there is not.
 use card::{Card, Protocol};
 use clock::Time;
-use drive::Method;
 use identity::Identity;
 use libc::STDERR_FILENO;
 use protocols::Named;
 use session_loop::Replies;
-use words::{Said, said_by};
 
 // Who this card is, for a master that asks: the revision `Revision 02.03 PC`, the model `LineOnPC`, the serial number `0000000000000001`.
 const IDENTITY: Identity = *b"Revision 02.03 PCLineOnPC0000000000000001";
@@ -28,7 +18,7 @@ const IDENTITY: Identity = *b"Revision 02.03 PCLineOnPC0000000000000001";
 fn usage() {
     io::write_all(
         STDERR_FILENO,
-        b"line: usage: line PROTOCOL DEVICE [method M] [din1], PROTOCOL is nfo, rtu or ascii, M is 1 or 2\n",
+        b"line: usage: line PROTOCOL DEVICE, PROTOCOL is nfo, rtu or ascii\n",
     );
 }
 
@@ -43,18 +33,9 @@ fn present() -> Time {
     clock::time_of(told.status, told.seconds, told.nanoseconds)
 }
 
-// A card at start, whose switch at DIN1 is closed or open.
-fn fresh(protocol: Protocol, method: Method, identity: Identity, closed: bool) -> Card
-    ensures { result ≡ (din1_set closed (started protocol method identity)).card }
-{
-    let card = Card::start(protocol, method, identity);
-    let after = card.din1(closed);
-    let next = after.card;
-    next
-}
-
-// The card on the open device, from this time on, to the device's end.
-fn run(card: Card, device: i32, start: u64) {
+// A card by the protocol on the open device, from this time on, to the device's end.
+fn run(protocol: Protocol, device: i32, start: u64) {
+    let card = Card::start(protocol, IDENTITY);
     let line = card.port;
     let pending = line.pending;
     let mut held = pending.bytes;
@@ -91,8 +72,8 @@ fn run(card: Card, device: i32, start: u64) {
     }
 }
 
-// The card on the device of this name.
-fn serve(card: Card, device: &[u8]) {
+// A card by the protocol on the device of this name.
+fn serve(protocol: Protocol, device: &[u8]) {
     let Time::At(start) = present() else {
         no_time();
         return;
@@ -102,26 +83,14 @@ fn serve(card: Card, device: &[u8]) {
         os::fail(device);
         return;
     }
-    run(card, port, start);
+    run(protocol, port, start);
     libc::close(port);
-}
-
-// What the `count` words behind the device say. One that is longer than its buffer comes back empty.
-fn behind_device(count: usize) -> Said {
-    let mut first = [0u8; 8];
-    let mut second = [0u8; 8];
-    let mut third = [0u8; 8];
-    let a = os::arg(3, &mut first);
-    let b = os::arg(4, &mut second);
-    let c = os::arg(5, &mut third);
-    said_by(count, &first[..a], &second[..b], &third[..c])
 }
 
 fn main() {
     let mut word = io::buffer();
     let mut device = io::buffer();
-    let count = os::arg_count();
-    if count < 3 {
+    if os::arg_count() != 3 {
         usage();
         return;
     }
@@ -130,14 +99,10 @@ fn main() {
         usage();
         return;
     };
-    let Said::Start(method, closed) = behind_device(count - 3) else {
-        usage();
-        return;
-    };
     let length = os::arg(2, &mut device);
     if os::errno() != 0 {
         os::fail(b"line: DEVICE");
         return;
     }
-    serve(fresh(protocol, method, IDENTITY, closed), &device[..length]);
+    serve(protocol, &device[..length]);
 }

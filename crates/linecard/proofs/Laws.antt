@@ -15,7 +15,6 @@ use Rattle.drive.specs.Plant as Plants
 use Rattle.drive.specs.Events as Drive
 use Rattle.drive.specs.Events.{Event, raised, ended, with_active, with_measured}
 use Rattle.drive.specs.declared.events.Measured.{Measured}
-use Rattle.drive.specs.declared.plant.Method.{Method}
 use Rattle.pending.specs.Held.{empty, emptied}
 use Rattle.card.specs.Outcome.{outcome_number}
 use Rattle.card.specs.State.{Core, card_of, protocol_number, started, restarted}
@@ -30,14 +29,14 @@ use Rattle.turn.specs.Turned.{turn_in}
 use Rattle.modbus.specs.declared.requests.Span.{Span}
 use Rattle.rtu.specs.Rtu.{register_span, register_data}
 use Rattle.rtu.proofs.Frames.{Within, told_within, data_told}
-use Rattle.linecard.specs.Host.{protocol_of, method_of, active_of, OnPlant, OnPort, Restarts}
+use Rattle.linecard.specs.Host.{protocol_of, active_of, OnPlant, OnPort, Restarts}
 use Rattle.linecard.specs.Told.{Leaves, told_in, place_of}
 
 -- ---- start and restart: each part is the definition's
-pub started_in : (n m : ℕ) (k : Protocol) (by : Method) (q p : Plant) (i : Identity) → k ≡ protocol_of n → q ≡ fresh (protocol_number k) → by ≡ method_of m → p ≡ Plants.started by
-    → card_of empty.bytes 0 q p i ≡ started (protocol_of n) (method_of m) i
+pub started_in : (n : ℕ) (k : Protocol) (q p : Plant) (i : Identity) → k ≡ protocol_of n → q ≡ fresh (protocol_number k) → p ≡ Plants.started
+    → card_of empty.bytes 0 q p i ≡ started (protocol_of n) i
 unfolding started empty
-started_in n m k by q p i a b d e = simp (e, d, b, a)
+started_in n k q p i a b d = simp (d, b, a)
 
 pub restarted_in : (len : ℕ) (q p y x : Plant) → y ≡ fresh (Ports.protocol q) → x ≡ Drive.restarted p → Restarts len q p 0 y x
 unfolding restarted emptied

@@ -4,8 +4,6 @@ use Rattle.std.specs.Prelude.{◌≡◌, Bool, not, List, ℕ, eqb}
 use Rattle.base.specs.Choice.{pick}
 use Rattle.identity.specs.Identity.{Identity}
 use Rattle.drive.specs.Plant.{Plant}
-use Rattle.drive.specs.declared.plant.Method.{Method}
-use Rattle.drive.specs.declared.plant.Method.TheVariants.{Scmd, Bits}
 use Rattle.pending.specs.declared.Pending.{Pending}
 use Rattle.card.specs.Outcome.{outcome_number}
 use Rattle.card.specs.State.{card_of, restarted}
@@ -18,10 +16,6 @@ use Rattle.card.specs.declared.state.Protocol.TheVariants.{Nfo, Rtu, Ascii}
 -- "The protocol of a port is chosen at start": 1 Modbus RTU, 2 Modbus ASCII, any other number NFO serial, as the number in the port is read
 unfoldable pub protocol_of : ℕ → Protocol
 protocol_of n = pick (eqb n 1) Rtu (pick (eqb n 2) Ascii Nfo)
-
--- "A method is chosen at start: 1, MODE and SCMD, or 2, these bits": any number but 2 is read as 1, as that in the plant is
-unfoldable pub method_of : ℕ → Method
-method_of n = pick (eqb n 2) Bits Scmd
 
 -- DIN1 is inactive by 0, and active by any other number
 unfoldable pub active_of : ℕ → Bool

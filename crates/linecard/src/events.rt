@@ -3,10 +3,10 @@ ghost use Rattle.std.specs.Prelude.{◌≡◌, ◌%◌};
 ghost use Rattle.drive.specs.declared.events.Measured.TheVariants.{Frq, Rms, Optime};
 ghost use Rattle.card.specs.State.{card_of, started};
 ghost use Rattle.card.specs.Events.{fault_raised, cause_ended, din1_set, measured_set, parity_told, ticked};
-ghost use Rattle.linecard.specs.Host.{protocol_of, method_of, active_of, Restarts, OnPlant, OnPort};
+ghost use Rattle.linecard.specs.Host.{protocol_of, active_of, Restarts, OnPlant, OnPort};
 
 use card::Protocol;
-use drive::{Measured, Method, Plant};
+use drive::{Measured, Plant};
 use identity::Identity;
 use port::Numbers;
 
@@ -23,18 +23,7 @@ fn protocol_of(n: u32) -> Protocol
     Protocol::Nfo
 }
 
-// The method that a number stands for.
-fn method_of(n: u32) -> Method
-    ensures { result ≡ method_of n }
-{
-    if n == 2 {
-        return Method::Bits;
-    }
-    Method::Scmd
-}
-
-// A fresh card with the identity that is given. Of protocols 1 is Modbus RTU, 2 Modbus ASCII, any other number NFO serial; of methods 2 is by bits, any other number
-// by MODE and SCMD. What was in the memory before does not count.
+// A fresh card with the identity that is given: 1 is Modbus RTU, 2 Modbus ASCII, any other number NFO serial. What was in the memory before does not count.
 #[unsafe(no_mangle)]
 pub extern "C" fn card_start_in(
     held: &mut [u8; 512],
@@ -43,19 +32,18 @@ pub extern "C" fn card_start_in(
     plant: &mut Plant,
     identity: &mut Identity,
     protocol: u32,
-    method: u32,
     given: &Identity,
 )
-    ensures { card_of held.new len.new port.new plant.new identity.new ≡ started (protocol_of protocol) (method_of method) given.now }
+    ensures { card_of held.new len.new port.new plant.new identity.new ≡ started (protocol_of protocol) given.now }
 {
     *held = [0u8; 512];
     *len = 0;
     *port = card::fresh_port(protocol_of(protocol));
-    *plant = drive::start(method_of(method));
+    *plant = drive::start();
     *identity = *given;
 }
 
-// The card restarts: no bit of Drive Control is stored then, and a SiAdr of 0 or 95 becomes 1. The array of the bytes pending stays as it is; there are none in it then.
+// The card restarts, and a SiAdr of 0 or 95 becomes 1. The array of the bytes pending stays as it is; there are none in it then.
 #[unsafe(no_mangle)]
 pub extern "C" fn card_restart_in(len: &mut usize, port: &mut Numbers, plant: &mut Plant)
     ensures { Restarts len.old port.old plant.old len.new port.new plant.new }

@@ -10,7 +10,7 @@ use lib.Dec.{eqb, leb}
 use lib.ListN.{length, get_or}
 use Rattle.base.specs.Choice.{pick, both, either}
 use Rattle.base.proofs.Tests.{pick_both, both_out, either_out}
-use Rattle.table.specs.Find.{row_of_span, row_to_read}
+use Rattle.table.specs.Find.{row_of_span}
 use Rattle.table.specs.declared.labels.Register.{Register}
 use Rattle.identity.specs.Identity.{objects_asked}
 use Rattle.port.specs.Port.{Numbers}
@@ -110,7 +110,7 @@ module _ (p : Plant) (q : Numbers) (a : ℕ) (u : List ℕ) where
   unfolding task_of done told_served wrote_served
   fits (Read f r n) =
       pick_both (Does (Read f r n)) (not (reaches_us (station p) a)) (λ _. tt)
-      (λ _. pick_both (Does (Read f r n)) (both (to_all a) true) (λ _. tt) (λ _. pick_both (Does (Read f r n)) (is_none (row_to_read r.0 n)) (λ _. tt) (λ _. tt)))
+      (λ _. pick_both (Does (Read f r n)) (both (to_all a) true) (λ _. tt) (λ _. pick_both (Does (Read f r n)) (is_none (row_of_span r.0 n)) (λ _. tt) (λ _. tt)))
   fits (One r w) =
       pick_both (Does (One r w)) (not (reaches_us (station p) a)) (λ _. tt)
       (λ _. pick_both (Does (One r w)) (both (to_all a) false) (λ _. tt) (λ _. pick_both (Does (One r w)) (is_none (row_of_span r.0 1)) (λ _. tt) (λ _. one_fits r w (written p (the_row (row_of_span r.0 1)).0 w).permit)))

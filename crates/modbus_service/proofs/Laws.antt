@@ -8,7 +8,7 @@ use borrow.Author.Tests.{eq-eqb, ne_eqb, not-true, not-false}
 use Rattle.base.specs.Choice.{pick, both}
 use Rattle.base.proofs.Tests.{both_false}
 use Rattle.table.specs.Table.{line_at}
-use Rattle.table.specs.Find.{row_of_span, row_to_read}
+use Rattle.table.specs.Find.{row_of_span}
 use Rattle.table.specs.declared.labels.Row.{Row}
 use Rattle.table.specs.declared.labels.Register.{Register}
 use Rattle.table.specs.declared.labels.Found.{Found}
@@ -85,11 +85,11 @@ module _ (st a : ℕ) (q : Request) (u : List ℕ) (t : Bool) (reaches : t ≡ r
     unfolding task_of
     task_read_all f n r e z = simp (to_us, e, eq-eqb a 0 z)
 
-    pub task_read_none : (f n : ℕ) (r : Register) (g : Found) → q ≡ Read f r n → (a ≡ 0 → ⊥) → g ≡ row_to_read r.0 n → g ≡ NoRow → Say (Answers.Refused Refusals.NoRow) ≡ task_of st a q u
+    pub task_read_none : (f n : ℕ) (r : Register) (g : Found) → q ≡ Read f r n → (a ≡ 0 → ⊥) → g ≡ row_of_span r.0 n → g ≡ NoRow → Say (Answers.Refused Refusals.NoRow) ≡ task_of st a q u
     unfolding task_of
     task_read_none f n r g e z d h = simp (to_us, e, ne_eqb a 0 z, sym d ∙ h)
 
-    pub task_read : (f n : ℕ) (r : Register) (g : Found) (row : Row) → q ≡ Read f r n → (a ≡ 0 → ⊥) → g ≡ row_to_read r.0 n → g ≡ At row → Tell row ≡ task_of st a q u
+    pub task_read : (f n : ℕ) (r : Register) (g : Found) (row : Row) → q ≡ Read f r n → (a ≡ 0 → ⊥) → g ≡ row_of_span r.0 n → g ≡ At row → Tell row ≡ task_of st a q u
     unfolding task_of
     task_read f n r g row e z d h = simp (to_us, e, ne_eqb a 0 z, sym d ∙ h)
 

@@ -2,24 +2,20 @@
 use Rattle.std.specs.Prelude.{◌≡◌, refl, List, [], ◌∷◌, map, ℕ}
 use Rattle.table.specs.Table.{rows, line_at, start_words}
 use Rattle.table.specs.Address.{address, first_register}
-use Rattle.table.specs.Find.{first_row, row_of_span, readable, row_to_read}
-use Rattle.allowed.specs.Allowed.{twos, within, member, allows, allowed_at}
+use Rattle.table.specs.Find.{first_row, row_of_span}
+use Rattle.allowed.specs.Allowed.{twos, within, allows, allowed_at}
 use Rattle.identity.specs.Identity.{up_to_lem, objects_asked}
 use Rattle.identity.specs.declared.Part.TheVariants.{Objects, Serial}
 use Rattle.drive.specs.Plant.{Plant, flags, started}
-use Rattle.drive.specs.declared.plant.Method.TheVariants.{Bits}
 use Rattle.drive.specs.Flags.{flagged, lowest_from, lowest_of}
-use Rattle.drive.specs.Bits.{by_bits, is_set, without, disabled}
-use Rattle.drive.specs.Status.{active, flag_stands, runs_by_scmd, runs, status_of, ready, status_word, righted}
+use Rattle.drive.specs.Status.{active, flag_stands, runs, status_of, ready, status_word, righted}
 use Rattle.drive.specs.Faults.{reflagged, halted, flag_raised, acknowledged}
-use Rattle.drive.specs.Events.{is_fault, raised, ended, switched, with_active}
-use Rattle.drive.specs.Control.{is_control, masked, control_word, acknowledging, enable_in_turn, switch_on_in_turn, in_turn, mode_by, acknowledged_by, steered}
-use Rattle.drive.specs.Cases.{fresh, taken}
+use Rattle.drive.specs.Events.{is_fault, raised, ended}
 use Rattle.answers.specs.Answer.{answer_number}
 use Rattle.reading.specs.Read as Reading
-use Rattle.permit.specs.Refusals.{read_only, bounds_of, allowed, flag_holds, init_running, commandable, permitted}
+use Rattle.permit.specs.Refusals.{read_only, bounds_of, allowed, init_running, permitted}
 use Rattle.permit.specs.Permit.{permit_of}
-use Rattle.service.specs.Write.{followed, applied_past, applied, written}
+use Rattle.service.specs.Write.{followed, applied, written}
 use Rattle.service.specs.Serving.{told_served, wrote_served}
 use Rattle.modbus_words.specs.Words.{word_at, long_at}
 use Rattle.modbus.specs.Request.{label, reads, writes, asked, identifying, numbering, asked_of, request_of}
@@ -31,11 +27,7 @@ use Rattle.modbus_service.specs.declared.Reply.TheVariants.{Nothing, Data}
 
 -- fault 5 was raised, and its cause has ended: flag 5, of mask 20h, still stands
 abbrev over : Plant
-over = (ended 5 (raised 5 fresh).plant).plant
-
--- a plant at start that is steered by bits
-abbrev by_bits_lem : Plant
-by_bits_lem = started Bits
+over = (ended 5 (raised 5 started).plant).plant
 
 -- the outcome's number, the flags then, the reply
 abbrev Result : Type 0
@@ -48,75 +40,63 @@ result e = (answer_number e.served.answer, flags e.served.plant, e.reply)
 abbrev pub cases : List ((Plant × ℕ × List ℕ) × Result)
 cases =
     -- "7. ★ `:01030294000165`: `:0103020001F9`. ★ `:0103070C0001E8`: `:0183027A`. ★ `:000302A4000156`: outcome 1, nothing acknowledged."
-    ((fresh, 1, 0x03 ∷ 0x02 ∷ 0x94 ∷ 0x00 ∷ 0x01 ∷ []), (0, 0, Data (Word 0x03 1)))
-    ∷ ((fresh, 1, 0x03 ∷ 0x07 ∷ 0x0C ∷ 0x00 ∷ 0x01 ∷ []), (2, 0, Data (Exception 0x03 2)))
+    ((started, 1, 0x03 ∷ 0x02 ∷ 0x94 ∷ 0x00 ∷ 0x01 ∷ []), (0, 0, Data (Word 0x03 1)))
+    ∷ ((started, 1, 0x03 ∷ 0x07 ∷ 0x0C ∷ 0x00 ∷ 0x01 ∷ []), (2, 0, Data (Exception 0x03 2)))
     ∷ ((over, 0, 0x03 ∷ 0x02 ∷ 0xA4 ∷ 0x00 ∷ 0x01 ∷ []), (1, 0x20, Nothing))
     -- 02A4h acknowledges, 02A5h does not; both are no span
     ∷ ((over, 1, 0x03 ∷ 0x02 ∷ 0xA4 ∷ 0x00 ∷ 0x01 ∷ []), (0, 0, Data (Word 0x03 5)))
     ∷ ((over, 1, 0x04 ∷ 0x02 ∷ 0xA5 ∷ 0x00 ∷ 0x01 ∷ []), (0, 0x20, Data (Word 0x04 5)))
     ∷ ((over, 1, 0x03 ∷ 0x02 ∷ 0xA4 ∷ 0x00 ∷ 0x02 ∷ []), (2, 0x20, Data (Exception 0x03 2)))
     -- Accel 100, by 06 and by 16; to all; and while a flag stands
-    ∷ ((fresh, 1, 0x06 ∷ 0x06 ∷ 0xDC ∷ 0x00 ∷ 0x64 ∷ []), (0, 0, Data (Echo 0x06 (label 0x06DC) 100)))
-    ∷ ((fresh, 1, 0x10 ∷ 0x06 ∷ 0xDC ∷ 0x00 ∷ 0x01 ∷ 0x02 ∷ 0x00 ∷ 0x64 ∷ []), (0, 0, Data (Echo 0x10 (label 0x06DC) 1)))
-    ∷ ((fresh, 0, 0x06 ∷ 0x06 ∷ 0xDC ∷ 0x00 ∷ 0x64 ∷ []), (0, 0, Nothing))
+    ∷ ((started, 1, 0x06 ∷ 0x06 ∷ 0xDC ∷ 0x00 ∷ 0x64 ∷ []), (0, 0, Data (Echo 0x06 (label 0x06DC) 100)))
+    ∷ ((started, 1, 0x10 ∷ 0x06 ∷ 0xDC ∷ 0x00 ∷ 0x01 ∷ 0x02 ∷ 0x00 ∷ 0x64 ∷ []), (0, 0, Data (Echo 0x10 (label 0x06DC) 1)))
+    ∷ ((started, 0, 0x06 ∷ 0x06 ∷ 0xDC ∷ 0x00 ∷ 0x64 ∷ []), (0, 0, Nothing))
     ∷ ((over, 1, 0x06 ∷ 0x06 ∷ 0xDC ∷ 0x00 ∷ 0x64 ∷ []), (5, 0x20, Data (Exception 0x06 4)))
     -- SpdScl num, of two registers: 1000000 low word first, and high word first; 06; its word
-    ∷ ((fresh, 1, 0x10 ∷ 0x07 ∷ 0x0C ∷ 0x00 ∷ 0x02 ∷ 0x04 ∷ 0x42 ∷ 0x40 ∷ 0x00 ∷ 0x0F ∷ []), (0, 0, Data (Echo 0x10 (label 0x070C) 2)))
-    ∷ ((fresh, 1, 0x10 ∷ 0x07 ∷ 0x0C ∷ 0x00 ∷ 0x02 ∷ 0x04 ∷ 0x00 ∷ 0x0F ∷ 0x42 ∷ 0x40 ∷ []), (4, 0, Data (Exception 0x10 3)))
-    ∷ ((fresh, 1, 0x06 ∷ 0x07 ∷ 0x0C ∷ 0x00 ∷ 0x01 ∷ []), (2, 0, Data (Exception 0x06 2)))
-    ∷ ((fresh, 1, 0x03 ∷ 0x07 ∷ 0x0C ∷ 0x00 ∷ 0x02 ∷ []), (0, 0, Data (Long 0x03 1)))
+    ∷ ((started, 1, 0x10 ∷ 0x07 ∷ 0x0C ∷ 0x00 ∷ 0x02 ∷ 0x04 ∷ 0x42 ∷ 0x40 ∷ 0x00 ∷ 0x0F ∷ []), (0, 0, Data (Echo 0x10 (label 0x070C) 2)))
+    ∷ ((started, 1, 0x10 ∷ 0x07 ∷ 0x0C ∷ 0x00 ∷ 0x02 ∷ 0x04 ∷ 0x00 ∷ 0x0F ∷ 0x42 ∷ 0x40 ∷ []), (4, 0, Data (Exception 0x10 3)))
+    ∷ ((started, 1, 0x06 ∷ 0x07 ∷ 0x0C ∷ 0x00 ∷ 0x01 ∷ []), (2, 0, Data (Exception 0x06 2)))
+    ∷ ((started, 1, 0x03 ∷ 0x07 ∷ 0x0C ∷ 0x00 ∷ 0x02 ∷ []), (0, 0, Data (Long 0x03 1)))
     -- a row that is only read; a bad length, also of a broadcast read; an unknown function, also to all
-    ∷ ((fresh, 1, 0x06 ∷ 0x02 ∷ 0xA4 ∷ 0x00 ∷ 0x00 ∷ []), (3, 0, Data (Exception 0x06 2)))
-    ∷ ((fresh, 1, 0x03 ∷ 0x02 ∷ 0x94 ∷ 0x00 ∷ []), (8, 0, Data (Exception 0x03 3)))
-    ∷ ((fresh, 0, 0x03 ∷ 0x02 ∷ 0x94 ∷ 0x00 ∷ []), (1, 0, Nothing))
-    ∷ ((fresh, 1, 0xAB ∷ []), (9, 0, Data (Exception 0xAB 1)))
-    ∷ ((fresh, 0, 0x2C ∷ []), (9, 0, Nothing))
+    ∷ ((started, 1, 0x06 ∷ 0x02 ∷ 0xA4 ∷ 0x00 ∷ 0x00 ∷ []), (3, 0, Data (Exception 0x06 2)))
+    ∷ ((started, 1, 0x03 ∷ 0x02 ∷ 0x94 ∷ 0x00 ∷ []), (8, 0, Data (Exception 0x03 3)))
+    ∷ ((started, 0, 0x03 ∷ 0x02 ∷ 0x94 ∷ 0x00 ∷ []), (1, 0, Nothing))
+    ∷ ((started, 1, 0xAB ∷ []), (9, 0, Data (Exception 0xAB 1)))
+    ∷ ((started, 0, 0x2C ∷ []), (9, 0, Nothing))
     -- Drive Status: DIN1 inactive is bit 6, a flag bit 3; it is only read, by its one register
-    ∷ ((fresh, 1, 0x03 ∷ 0x02 ∷ 0x58 ∷ 0x00 ∷ 0x01 ∷ []), (0, 0, Data (Word 0x03 0x0040)))
+    ∷ ((started, 1, 0x03 ∷ 0x02 ∷ 0x58 ∷ 0x00 ∷ 0x01 ∷ []), (0, 0, Data (Word 0x03 0x0040)))
     ∷ ((over, 1, 0x04 ∷ 0x02 ∷ 0x58 ∷ 0x00 ∷ 0x01 ∷ []), (0, 0x20, Data (Word 0x04 0x0048)))
-    ∷ ((fresh, 0, 0x03 ∷ 0x02 ∷ 0x58 ∷ 0x00 ∷ 0x01 ∷ []), (1, 0, Nothing))
-    ∷ ((fresh, 1, 0x06 ∷ 0x02 ∷ 0x58 ∷ 0x00 ∷ 0x00 ∷ []), (3, 0, Data (Exception 0x06 2)))
+    ∷ ((started, 0, 0x03 ∷ 0x02 ∷ 0x58 ∷ 0x00 ∷ 0x01 ∷ []), (1, 0, Nothing))
+    ∷ ((started, 1, 0x06 ∷ 0x02 ∷ 0x58 ∷ 0x00 ∷ 0x00 ∷ []), (3, 0, Data (Exception 0x06 2)))
     ∷ ((over, 1, 0x10 ∷ 0x02 ∷ 0x58 ∷ 0x00 ∷ 0x01 ∷ 0x02 ∷ 0x00 ∷ 0x48 ∷ []), (3, 0x20, Data (Exception 0x10 2)))
-    ∷ ((fresh, 1, 0x03 ∷ 0x02 ∷ 0x58 ∷ 0x00 ∷ 0x02 ∷ []), (2, 0, Data (Exception 0x03 2)))
-    -- Drive Control and its mask, by bits: bus control, enable by the mask, in one message out of turn; read; by MODE and SCMD
-    ∷ ((by_bits_lem, 1, 0x06 ∷ 0x02 ∷ 0x54 ∷ 0x40 ∷ 0x00 ∷ []), (0, 0, Data (Echo 0x06 (label 0x0254) 0x4000)))
-    ∷ ((taken, 1, 0x10 ∷ 0x07 ∷ 0x1C ∷ 0x00 ∷ 0x02 ∷ 0x04 ∷ 0xFF ∷ 0xFF ∷ 0x00 ∷ 0x08 ∷ []), (0, 0, Data (Echo 0x10 (label 0x071C) 2)))
-    ∷ ((taken, 1, 0x10 ∷ 0x07 ∷ 0x1C ∷ 0x00 ∷ 0x02 ∷ 0x04 ∷ 0x00 ∷ 0x08 ∷ 0xFF ∷ 0xFF ∷ []), (7, 0, Data (Exception 0x10 4)))
-    ∷ ((taken, 1, 0x06 ∷ 0x02 ∷ 0x54 ∷ 0x40 ∷ 0x09 ∷ []), (7, 0, Data (Exception 0x06 4)))
-    ∷ ((taken, 1, 0x03 ∷ 0x02 ∷ 0x54 ∷ 0x00 ∷ 0x01 ∷ []), (0, 0, Data (Word 0x03 0x4000)))
-    ∷ ((taken, 1, 0x06 ∷ 0x02 ∷ 0x94 ∷ 0x00 ∷ 0x01 ∷ []), (7, 0, Data (Exception 0x06 4)))
-    ∷ ((fresh, 1, 0x06 ∷ 0x02 ∷ 0x54 ∷ 0x40 ∷ 0x00 ∷ []), (7, 0, Data (Exception 0x06 4)))
-    -- "2 for a read of the mask"; to all, 1; 06 writes one register, and the mask has two
-    ∷ ((taken, 1, 0x03 ∷ 0x07 ∷ 0x1C ∷ 0x00 ∷ 0x02 ∷ []), (2, 0, Data (Exception 0x03 2)))
-    ∷ ((taken, 0, 0x03 ∷ 0x07 ∷ 0x1C ∷ 0x00 ∷ 0x02 ∷ []), (1, 0, Nothing))
-    ∷ ((taken, 1, 0x06 ∷ 0x07 ∷ 0x1C ∷ 0xFF ∷ 0xFF ∷ []), (2, 0, Data (Exception 0x06 2)))
+    ∷ ((started, 1, 0x03 ∷ 0x02 ∷ 0x58 ∷ 0x00 ∷ 0x02 ∷ []), (2, 0, Data (Exception 0x03 2)))
     -- another address
-    ∷ ((fresh, 2, 0x2C ∷ []), (1, 0, Nothing))
+    ∷ ((started, 2, 0x2C ∷ []), (1, 0, Nothing))
     -- 43, type 14: code 01 from object 00h; code 02 from 05h; from 07h, which lies outside; code 04 of 04h, and of 07h. Nothing is acknowledged
     ∷ ((over, 1, 0x2B ∷ 0x0E ∷ 0x01 ∷ 0x00 ∷ []), (0, 0x20, Data (Identity (Objects 1 0 2))))
-    ∷ ((fresh, 1, 0x2B ∷ 0x0E ∷ 0x02 ∷ 0x05 ∷ []), (0, 0, Data (Identity (Objects 2 5 6))))
-    ∷ ((fresh, 1, 0x2B ∷ 0x0E ∷ 0x02 ∷ 0x07 ∷ []), (0, 0, Data (Identity (Objects 2 0 6))))
-    ∷ ((fresh, 1, 0x2B ∷ 0x0E ∷ 0x04 ∷ 0x04 ∷ []), (0, 0, Data (Identity (Objects 4 4 4))))
-    ∷ ((fresh, 1, 0x2B ∷ 0x0E ∷ 0x04 ∷ 0x07 ∷ []), (2, 0, Data (Exception 0x2B 2)))
+    ∷ ((started, 1, 0x2B ∷ 0x0E ∷ 0x02 ∷ 0x05 ∷ []), (0, 0, Data (Identity (Objects 2 5 6))))
+    ∷ ((started, 1, 0x2B ∷ 0x0E ∷ 0x02 ∷ 0x07 ∷ []), (0, 0, Data (Identity (Objects 2 0 6))))
+    ∷ ((started, 1, 0x2B ∷ 0x0E ∷ 0x04 ∷ 0x04 ∷ []), (0, 0, Data (Identity (Objects 4 4 4))))
+    ∷ ((started, 1, 0x2B ∷ 0x0E ∷ 0x04 ∷ 0x07 ∷ []), (2, 0, Data (Exception 0x2B 2)))
     -- code 03; a byte more; no type byte; type 13, also where the length is wrong
-    ∷ ((fresh, 1, 0x2B ∷ 0x0E ∷ 0x03 ∷ 0x00 ∷ []), (8, 0, Data (Exception 0x2B 3)))
-    ∷ ((fresh, 1, 0x2B ∷ 0x0E ∷ 0x01 ∷ 0x00 ∷ 0x00 ∷ []), (8, 0, Data (Exception 0x2B 3)))
-    ∷ ((fresh, 1, 0x2B ∷ []), (8, 0, Data (Exception 0x2B 3)))
-    ∷ ((fresh, 1, 0x2B ∷ 0x0D ∷ 0x01 ∷ 0x00 ∷ []), (9, 0, Data (Exception 0x2B 1)))
-    ∷ ((fresh, 1, 0x2B ∷ 0x0D ∷ []), (9, 0, Data (Exception 0x2B 1)))
+    ∷ ((started, 1, 0x2B ∷ 0x0E ∷ 0x03 ∷ 0x00 ∷ []), (8, 0, Data (Exception 0x2B 3)))
+    ∷ ((started, 1, 0x2B ∷ 0x0E ∷ 0x01 ∷ 0x00 ∷ 0x00 ∷ []), (8, 0, Data (Exception 0x2B 3)))
+    ∷ ((started, 1, 0x2B ∷ []), (8, 0, Data (Exception 0x2B 3)))
+    ∷ ((started, 1, 0x2B ∷ 0x0D ∷ 0x01 ∷ 0x00 ∷ []), (9, 0, Data (Exception 0x2B 1)))
+    ∷ ((started, 1, 0x2B ∷ 0x0D ∷ []), (9, 0, Data (Exception 0x2B 1)))
     -- 17, and with a byte more
-    ∷ ((fresh, 1, 0x11 ∷ []), (0, 0, Data (Identity Serial)))
-    ∷ ((fresh, 1, 0x11 ∷ 0x00 ∷ []), (8, 0, Data (Exception 0x11 3)))
+    ∷ ((started, 1, 0x11 ∷ []), (0, 0, Data (Identity Serial)))
+    ∷ ((started, 1, 0x11 ∷ 0x00 ∷ []), (8, 0, Data (Exception 0x11 3)))
     -- to all: 1, also where they would be refused; but type 13 is 9
-    ∷ ((fresh, 0, 0x2B ∷ 0x0E ∷ 0x01 ∷ 0x00 ∷ []), (1, 0, Nothing))
-    ∷ ((fresh, 0, 0x2B ∷ 0x0E ∷ 0x04 ∷ 0x07 ∷ []), (1, 0, Nothing))
-    ∷ ((fresh, 0, 0x2B ∷ 0x0E ∷ 0x03 ∷ 0x00 ∷ []), (1, 0, Nothing))
-    ∷ ((fresh, 0, 0x2B ∷ []), (1, 0, Nothing))
-    ∷ ((fresh, 0, 0x11 ∷ []), (1, 0, Nothing))
-    ∷ ((fresh, 0, 0x11 ∷ 0x00 ∷ []), (1, 0, Nothing))
-    ∷ ((fresh, 0, 0x2B ∷ 0x0D ∷ 0x01 ∷ 0x00 ∷ []), (9, 0, Nothing))
+    ∷ ((started, 0, 0x2B ∷ 0x0E ∷ 0x01 ∷ 0x00 ∷ []), (1, 0, Nothing))
+    ∷ ((started, 0, 0x2B ∷ 0x0E ∷ 0x04 ∷ 0x07 ∷ []), (1, 0, Nothing))
+    ∷ ((started, 0, 0x2B ∷ 0x0E ∷ 0x03 ∷ 0x00 ∷ []), (1, 0, Nothing))
+    ∷ ((started, 0, 0x2B ∷ []), (1, 0, Nothing))
+    ∷ ((started, 0, 0x11 ∷ []), (1, 0, Nothing))
+    ∷ ((started, 0, 0x11 ∷ 0x00 ∷ []), (1, 0, Nothing))
+    ∷ ((started, 0, 0x2B ∷ 0x0D ∷ 0x01 ∷ 0x00 ∷ []), (9, 0, Nothing))
     ∷ []
 
 pub cases_hold : map (λ (c : (Plant × ℕ × List ℕ) × Result). result (exchanged c.0.0 (0 ∷ 0 ∷ 0 ∷ []) c.0.1 c.0.2)) cases ≡ map (λ (c : (Plant × ℕ × List ℕ) × Result). c.1) cases
-unfolding rows line_at start_words address first_register first_row row_of_span readable row_to_read twos within member allows allowed_at started flagged lowest_from lowest_of by_bits is_set without disabled active flag_stands runs_by_scmd runs status_of ready status_word righted reflagged halted flag_raised acknowledged is_fault raised ended switched with_active is_control masked control_word acknowledging enable_in_turn switch_on_in_turn in_turn mode_by acknowledged_by steered Reading.stored Reading.told read_only bounds_of allowed flag_holds init_running commandable permitted permit_of followed applied_past applied written told_served wrote_served word_at long_at reads writes asked identifying numbering asked_of request_of up_to_lem objects_asked reaches_us task_of done served registers_told replied_by replied exchanged
+unfolding rows line_at start_words address first_register first_row row_of_span twos within allows allowed_at started flagged lowest_from lowest_of active flag_stands runs status_of ready status_word righted reflagged halted flag_raised acknowledged is_fault raised ended Reading.stored Reading.told read_only bounds_of allowed init_running permitted permit_of followed applied written told_served wrote_served word_at long_at reads writes asked identifying numbering asked_of request_of up_to_lem objects_asked reaches_us task_of done served registers_told replied_by replied exchanged
 cases_hold = refl

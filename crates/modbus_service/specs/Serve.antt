@@ -2,7 +2,7 @@
 use Rattle.std.specs.Prelude.{◌≡◌, refl, Bool, true, false, not, List, [], ◌∷◌, ◌++◌, ℕ, eqb}
 use Rattle.base.specs.Choice.{pick, both, either}
 use Rattle.base.specs.Order.{Line, when, first_of, saying, numbers}
-use Rattle.table.specs.Find.{row_of_span, row_to_read}
+use Rattle.table.specs.Find.{row_of_span}
 use Rattle.table.specs.declared.labels.Row.{Row}
 use Rattle.table.specs.declared.labels.Found.{Found}
 use Rattle.table.specs.declared.labels.Found.TheVariants.{NoRow}
@@ -68,10 +68,9 @@ is_malformed Serial = false
 is_malformed (Malformed function) = true
 is_malformed (Unknown function) = false
 
--- "A row's registers are read or written all in one message and only its own: start at its first, count its width"; a 06 writes one register. "2 for a read of the
--- mask", which no read tells
+-- "A row's registers are read or written all in one message and only its own: start at its first, count its width"; a 06 writes one register
 abbrev pub row_asked : Request → Found
-row_asked (Read function first count) = row_to_read first.0 count
+row_asked (Read function first count) = row_of_span first.0 count
 row_asked (One register word) = row_of_span register.0 1
 row_asked (Many first count place) = row_of_span first.0 count
 row_asked (Identify code object) = NoRow

@@ -76,7 +76,7 @@ fn task_of(station: u32, address: u8, request: Request, unit: &[u8]) -> Task
             if address == 0 {
                 return Task::Say(Answer::NotOurs);
             }
-            let Found::At(row) = first.to_read(count) else {
+            let Found::At(row) = first.span(count) else {
                 return Task::Say(Answer::Refused(Refusal::NoRow));
             };
             Task::Tell(row)

@@ -3,21 +3,17 @@ use mathlib.Core.Path.{◌≡◌, refl, sym, ap, ◌∙◌}
 use mathlib.Core.Bool.{Bool, true, false, not}
 use mathlib.Core.List.{List, [], ◌∷◌}
 use Prim.Native.Nat.{ℕ}
-use borrow.Author.Tests.{eq-eqb, not-true, not-false}
 use Rattle.base.specs.Choice.{pick, both}
 use Rattle.base.specs.Order.{Line, first_of, saying}
-use Rattle.table.specs.Names.{MODE, SCMD}
 use Rattle.table.specs.Table.{line_at}
 use Rattle.table.specs.declared.lines.Class.{Class}
 use Rattle.answers.specs.Answer.{refusal_number}
 use Rattle.answers.specs.declared.Refusal.{Refusal}
 use Rattle.answers.specs.declared.Refusal.TheVariants.{NotPermitted}
 use Rattle.drive.specs.Plant.{Plant}
-use Rattle.drive.specs.Bits.{by_bits}
 use Rattle.drive.specs.Status.{flag_stands, runs}
-use Rattle.drive.specs.Control.{is_control, control_word, acknowledging, in_turn}
 use Rattle.permit.specs.declared.Permit.TheVariants.{Write, Refused}
-use Rattle.permit.specs.Refusals.{read_only, allowed, flag_holds, is_init, init_running, commandable, permitted, read_line, write_lines}
+use Rattle.permit.specs.Refusals.{read_only, allowed, is_init, init_running, permitted, read_line, write_lines}
 use Rattle.permit.specs.Permit.{permit_number, permit_by, permit_of}
 
 -- an arm of a `match` on the row's class
@@ -29,37 +25,8 @@ pub init_running_at : (p : Plant) (row : ℕ) (class k : Class) (r : Bool) → c
 unfolding init_running
 init_running_at p row class k r d e q = q ∙ ap (λ (x : Class). both (is_init x) (runs p)) (sym e ∙ d)
 
--- any other row, while a flag stands
-pub row_held : (p : Plant) (row w : ℕ) (s steers : Bool) → s ≡ flag_stands p → not s ≡ false → steers ≡ is_control row → not steers ≡ true → true ≡ flag_holds p row w
-unfolding flag_holds
-row_held p row w s steers stands flagged control other = simp (← stands, not-false s flagged, ← control, not-true steers other)
-
--- Drive Control and its mask, by the word that is asked for: while a flag stands, and by bits
-module _ (p : Plant) (row w asked : ℕ) (steers : Bool) (control : steers ≡ is_control row) (asks : asked ≡ control_word p row w) where
-  pub control_held : (s a : Bool) → s ≡ flag_stands p → not s ≡ false → not steers ≡ false → a ≡ acknowledging asked → not a ≡ flag_holds p row w
-  unfolding flag_holds
-  control_held s a stands flagged is e = simp (← stands, not-false s flagged, ← control, not-false steers is, ← asks, e)
-
-  pub control_permitted : (b t : Bool) → b ≡ by_bits p → b ≡ true → steers ≡ true → t ≡ in_turn p asked → t ≡ permitted p row w
-  unfolding permitted
-  control_permitted b t bits on is e = simp (← control, is, ← bits, on, ← asks, e)
-
--- any other row: MODE and SCMD are written by method 1
-module _ (p : Plant) (row w : ℕ) (steers b : Bool) (control : steers ≡ is_control row) (other : steers ≡ false) where
-  pub mode_permitted : b ≡ by_bits p → row ≡ MODE → not b ≡ permitted p row w
-  unfolding permitted
-  mode_permitted bits is = simp (← control, other, eq-eqb _ _ is, bits)
-
-  pub scmd_by_bits : b ≡ by_bits p → b ≡ true → row ≡ SCMD → false ≡ permitted p row w
-  unfolding permitted
-  scmd_by_bits bits on is = rw (← control, other, is, ← bits, on)
-
-  pub scmd_permitted : (t : Bool) → b ≡ by_bits p → b ≡ false → row ≡ SCMD → t ≡ commandable p w → t ≡ permitted p row w
-  unfolding permitted
-  scmd_permitted t bits off is e = rw (← control, other, is, ← bits, off, e)
-
 -- the order past its fourth test
-module _ (p : Plant) (row w : ℕ) (o a f h t : Bool) (reads : o ≡ read_only row) (writable : o ≡ false) (allows : a ≡ allowed p row w) (fine : not a ≡ false) (flags : f ≡ flag_holds p row w) (unflagged : f ≡ false)
+module _ (p : Plant) (row w : ℕ) (o a f h t : Bool) (reads : o ≡ read_only row) (writable : o ≡ false) (allows : a ≡ allowed p row w) (fine : not a ≡ false) (flags : f ≡ flag_stands p) (unflagged : f ≡ false)
     (holds : h ≡ init_running p row) (free : h ≡ false) (permits : t ≡ permitted p row w) where
   pub permit_no : not t ≡ true → Refused NotPermitted ≡ permit_of p row w
   unfolding permit_of

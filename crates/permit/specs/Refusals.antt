@@ -1,20 +1,18 @@
 -- Why a write is refused, in document 01's order. Assumes nothing.
 use Rattle.std.specs.Prelude.{◌≡◌, refl, Bool, true, false, not, List, [], ◌∷◌, ℕ, eqb, get_or}
-use Rattle.base.specs.Choice.{pick, both, either}
+use Rattle.base.specs.Choice.{both, either}
 use Rattle.base.specs.Order.{Line, when, numbers}
-use Rattle.table.specs.Names.{I-magn, I-limt, Mode, MODE, SCMD}
+use Rattle.table.specs.Names.{I-magn, I-limt, Mode, SCMD}
 use Rattle.table.specs.Table.{line_at}
 use Rattle.table.specs.declared.lines.Class.{Class}
-use Rattle.table.specs.declared.lines.Class.TheVariants.{Init, Run, OnlyRead, OnlyWrite}
+use Rattle.table.specs.declared.lines.Class.TheVariants.{Init, Run, OnlyRead}
 use Rattle.allowed.specs.Allowed.{allowed_at}
 use Rattle.allowed.specs.declared.Bounds.{Bounds}
 use Rattle.answers.specs.Answer.{refusal_number}
 use Rattle.answers.specs.declared.Refusal.{Refusal}
 use Rattle.answers.specs.declared.Refusal.TheVariants.{ReadOnly, NotAllowed, FlagStands, Running, NotPermitted}
 use Rattle.drive.specs.Plant.{Plant, mode}
-use Rattle.drive.specs.Bits.{by_bits}
 use Rattle.drive.specs.Status.{active, flag_stands, runs}
-use Rattle.drive.specs.Control.{is_control, control_word, acknowledging, in_turn}
 
 -- ---- the column When
 -- 3: "row is read-only"
@@ -22,7 +20,6 @@ abbrev pub is_read : Class → Bool
 is_read Init = false
 is_read Run = false
 is_read OnlyRead = true
-is_read OnlyWrite = false
 
 unfoldable pub read_only : ℕ → Bool
 read_only row = is_read (line_at row).class
@@ -34,30 +31,18 @@ bounds_of p = record { magn = get_or p I-magn 0; limt = get_or p I-limt 0; mode 
 unfoldable pub allowed : Plant → ℕ → ℕ → Bool
 allowed p row w = allowed_at row (bounds_of p) w
 
--- 5: "a fault flag stands (writes)"; "While a flag stands, only a write with bit 7 set and bits 0 and 3 clear goes through": of Drive Control or its mask, whatever the method
-unfoldable pub flag_holds : Plant → ℕ → ℕ → Bool
-flag_holds p row w = both (flag_stands p) (not (both (is_control row) (acknowledging (control_word p row w))))
-
 -- 6: "Init row, running"
 abbrev pub is_init : Class → Bool
 is_init Init = true
 is_init Run = false
 is_init OnlyRead = false
-is_init OnlyWrite = false
 
 unfoldable pub init_running : Plant → ℕ → Bool
 init_running p row = both (is_init (line_at row).class) (runs p)
 
--- "SCMD is written only at MODE 3; run values need DIN1 active"
-unfoldable pub commandable : Plant → ℕ → Bool
-commandable p w = both (eqb (mode p) 3) (either (eqb w 0) (active p))
-
--- 7: "for a write to the other method's rows and for each step out of turn"
+-- 7: "SCMD is written only at MODE 3; run values need DIN1 active"
 unfoldable pub permitted : Plant → ℕ → ℕ → Bool
-permitted p row w =
-    pick (is_control row) (both (by_bits p) (in_turn p (control_word p row w)))
-    (pick (eqb row MODE) (not (by_bits p))
-    (pick (eqb row SCMD) (both (not (by_bits p)) (commandable p w)) true))
+permitted p row w = either (not (eqb row SCMD)) (both (eqb (mode p) 3) (either (eqb w 0) (active p)))
 
 -- ---- the order, which each protocol begins with lines of its own
 abbrev pub read_line : ℕ → Line Refusal
@@ -66,7 +51,7 @@ read_line row = when (read_only row) ReadOnly
 abbrev pub write_lines : Plant → ℕ → ℕ → List (Line Refusal)
 write_lines p row w =
     when (not (allowed p row w)) NotAllowed
-    ∷ when (flag_holds p row w) FlagStands
+    ∷ when (flag_stands p) FlagStands
     ∷ when (init_running p row) Running
     ∷ when (not (permitted p row w)) NotPermitted
     ∷ []

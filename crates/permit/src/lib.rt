@@ -1,6 +1,6 @@
 // Whether a row may be written now: document 01's refusals 3 to 7, in its order.
 ghost use Rattle.std.specs.Prelude.{◌≡◌};
-ghost use Rattle.permit.specs.Refusals.{read_only, allowed, flag_holds, init_running, commandable, permitted};
+ghost use Rattle.permit.specs.Refusals.{read_only, allowed, init_running, permitted};
 ghost use Rattle.permit.specs.Permit.{permit_of};
 
 use allowed::{Bounds, allows};
@@ -26,7 +26,7 @@ pub fn permit_of(plant: &Plant, row: Row, word: u32) -> Permit
     if !is_allowed(plant, row, word) {
         return Permit::Refused(Refusal::NotAllowed);
     }
-    if flag_holds(plant, row, word) {
+    if drive::flag_stands(plant) {
         return Permit::Refused(Refusal::FlagStands);
     }
     if is_init_running(plant, row) {
@@ -47,7 +47,6 @@ pub fn read_only(row: Row) -> bool
         Class::Init => false,
         Class::Run => false,
         Class::OnlyRead => true,
-        Class::OnlyWrite => false,
     }
 }
 
@@ -63,20 +62,6 @@ fn is_allowed(plant: &Plant, row: Row, word: u32) -> bool
     allows(row, word, bounds)
 }
 
-// While a flag stands nothing is written, but a word of Drive Control that acknowledges.
-fn flag_holds(plant: &Plant, row: Row, word: u32) -> bool
-    ensures { result ≡ flag_holds plant.now row.0 word }
-{
-    if !drive::flag_stands(plant) {
-        return false;
-    }
-    if !drive::is_control(row) {
-        return true;
-    }
-    let asked = drive::control_word(plant, row, word);
-    !drive::is_acknowledging(asked)
-}
-
 // An Init row is not written while the drive runs.
 fn is_init_running(plant: &Plant, row: Row) -> bool
     ensures { result ≡ init_running plant.now row.0 }
@@ -86,14 +71,16 @@ fn is_init_running(plant: &Plant, row: Row) -> bool
         Class::Init => drive::running(plant),
         Class::Run => false,
         Class::OnlyRead => false,
-        Class::OnlyWrite => false,
     }
 }
 
 // SCMD is written only at MODE 3, and a run value only with DIN1 active.
-fn is_commandable(plant: &Plant, word: u32) -> bool
-    ensures { result ≡ commandable plant.now word }
+fn is_permitted(plant: &Plant, row: Row, word: u32) -> bool
+    ensures { result ≡ permitted plant.now row.0 word }
 {
+    if row.0 != SCMD {
+        return true;
+    }
     if plant[MODE] != 3 {
         return false;
     }
@@ -101,26 +88,4 @@ fn is_commandable(plant: &Plant, word: u32) -> bool
         return true;
     }
     plant[DIN1] != 0
-}
-
-// By bits Drive Control and its mask are written, each step in its turn; by method 1 MODE and SCMD. Any other row is by either.
-fn is_permitted(plant: &Plant, row: Row, word: u32) -> bool
-    ensures { result ≡ permitted plant.now row.0 word }
-{
-    if drive::is_control(row) {
-        if drive::by_bits(plant) {
-            return drive::in_turn(plant, drive::control_word(plant, row, word));
-        }
-        return false;
-    }
-    if row.0 == MODE {
-        return !drive::by_bits(plant);
-    }
-    if row.0 == SCMD {
-        if drive::by_bits(plant) {
-            return false;
-        }
-        return is_commandable(plant, word);
-    }
-    true
 }

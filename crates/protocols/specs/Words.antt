@@ -1,13 +1,10 @@
--- The words that name the protocols and the methods. "The protocol of a port is chosen at start"; "A method is chosen at start". Assumes nothing.
+-- The words that name the protocols. "The protocol of a port is chosen at start". Assumes nothing.
 use Rattle.std.specs.Prelude.{List, [], ◌∷◌, ℕ}
 use Rattle.base.specs.Choice.{pick}
 use Rattle.base.specs.Bytes.{same}
-use Rattle.drive.specs.declared.plant.Method.TheVariants.{Scmd, Bits}
 use Rattle.card.specs.declared.state.Protocol.TheVariants.{Nfo, Rtu, Ascii}
 use Rattle.protocols.specs.declared.Named.{Named}
 use Rattle.protocols.specs.declared.Named.TheVariants.{Protocol, Nothing}
-use Rattle.protocols.specs.declared.Chosen.{Chosen}
-use Rattle.protocols.specs.declared.Chosen.TheVariants.{Method, NoMethod}
 
 -- `nfo`, `rtu`, `ascii`; any other word names nothing
 unfoldable pub protocol_named : List ℕ → Named
@@ -15,7 +12,3 @@ protocol_named word =
     pick (same word (0x6E ∷ 0x66 ∷ 0x6F ∷ [])) (Protocol Nfo)
     (pick (same word (0x72 ∷ 0x74 ∷ 0x75 ∷ [])) (Protocol Rtu)
     (pick (same word (0x61 ∷ 0x73 ∷ 0x63 ∷ 0x69 ∷ 0x69 ∷ [])) (Protocol Ascii) Nothing))
-
--- "1, MODE and SCMD, or 2, these bits"; any other word chooses none
-unfoldable pub method_chosen : List ℕ → Chosen
-method_chosen word = pick (same word (0x31 ∷ [])) (Method Scmd) (pick (same word (0x32 ∷ [])) (Method Bits) NoMethod)

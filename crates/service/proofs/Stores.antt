@@ -4,27 +4,25 @@ use mathlib.Core.Bool.{Bool, true, false, not}
 use mathlib.Core.List.{List, [], ◌∷◌}
 use Prim.Native.Nat.{ℕ, ◌≤◌}
 use native.Mathlib.Omega.{arith}
-use borrow.Author.Tests.{eq-eqb, ne_eqb, eqb-true, ltb-true, ltb-false, not-true, not-false}
+use borrow.Author.Tests.{ne_eqb, eqb-true, ltb-true, ltb-false, not-true}
 use lib.Dec.{eqb, ltb}
 use lib.ListN.{length, get_or, set, length-set}
 use lib.Seq.{get_or-set_same, get_or-set_other, set-get_or}
-use Rattle.base.specs.Choice.{pick, both, either}
+use Rattle.base.specs.Choice.{pick, both}
 use Rattle.base.specs.Order.{Line, none_of}
-use Rattle.base.proofs.Tests.{both_out, either_left, either_right, both_true, not_both, pick_both}
-use Rattle.table.specs.Names.{Mode, Setpoint, MODE, SCMD, Drive-Status, Drive-Control, Control-Mask}
+use Rattle.base.proofs.Tests.{both_out, not_both, pick_both}
+use Rattle.table.specs.Names.{Mode, Setpoint, MODE, SCMD, Drive-Status}
 use Rattle.table.specs.Table.{rows, line_at}
 use Rattle.table.proofs.Columns.{from_inv_st}
 use Rattle.port.specs.Port.{Numbers}
 use Rattle.drive.specs.Plant.{Plant, Sized}
 use Rattle.drive.specs.Status.{flag_stands, Right}
-use Rattle.drive.specs.Control.{is_control}
-use Rattle.drive.proofs.Righted.{righted_other, righted_right, steered_right}
+use Rattle.drive.proofs.Righted.{righted_other, righted_right}
 use Rattle.answers.specs.declared.Change.{Change}
 use Rattle.answers.specs.declared.Refusal.{Refusal}
 use Rattle.permit.specs.declared.Permit.{Permit}
 use Rattle.permit.specs.declared.Permit.TheVariants.{Write, Refused}
-use Rattle.permit.specs.Refusals as Refusals
-use Rattle.permit.specs.Refusals.{is_read, read_only, flag_holds, init_running, read_line, write_lines}
+use Rattle.permit.specs.Refusals.{is_read, read_only, allowed, init_running, permitted, read_line, write_lines}
 use Rattle.permit.specs.Permit.{permit_by, permit_of}
 use Rattle.reading.specs.Read.{Told, told}
 use Rattle.reading.proofs.Tells.{tells_stored}
@@ -45,7 +43,7 @@ follow_leaves p row n a b =
 -- ---- a row that was written holds the word
 pub stores : (p : Plant) (row w : ℕ) → Sized p → row ≤ SCMD → get_or (applied row w p) row 0 ≡ w
 stores p row w s h =
-    applied_by p row w (λ x. get_or x row 0 ≡ w) (λ l _. absurd (omega arith)) (λ l _. absurd (omega arith)) (λ l e. here)
+    applied_by p row w (λ x. get_or x row 0 ≡ w) (λ l. absurd (omega arith)) (λ l e. here)
     (λ l d. righted_other _ row (λ e. omega (arith, e)) ∙ follow_leaves (set p row w) row row (λ e q. omega arith) (λ e q. omega arith) ∙ here)
   where
     here : get_or (set p row w) row 0 ≡ w
@@ -58,10 +56,10 @@ stores_told p q row w s h =
     ∙ stores p row w s h
 
 -- ---- every other number is as it was, but for Drive Status, Setpoint at a different Mode, and SCMD at a different MODE
-pub leaves : (p : Plant) (row w n : ℕ) → is_control row ≡ false → (n ≡ row → ⊥) → (n ≡ Drive-Status → ⊥) → (row ≡ Mode → (get_or p Mode 0 ≡ w → ⊥) → n ≡ Setpoint → ⊥)
+pub leaves : (p : Plant) (row w n : ℕ) → (n ≡ row → ⊥) → (n ≡ Drive-Status → ⊥) → (row ≡ Mode → (get_or p Mode 0 ≡ w → ⊥) → n ≡ Setpoint → ⊥)
     → (row ≡ MODE → (get_or p MODE 0 ≡ w → ⊥) → n ≡ SCMD → ⊥) → get_or (applied row w p) n 0 ≡ get_or p n 0
-leaves p row w n plain o s a b =
-    applied_by p row w (λ x. get_or x n 0 ≡ get_or p n 0) (λ l _. refl) (λ l is. absurd (not_both is plain)) (λ l e. there)
+leaves p row w n o s a b =
+    applied_by p row w (λ x. get_or x n 0 ≡ get_or p n 0) (λ l. refl) (λ l e. there)
     (λ l d. righted_other _ n s ∙ follow_leaves (set p row w) row n (λ e. a e (λ q. d (rw e q))) (λ e. b e (λ q. d (rw e q))) ∙ there)
   where
     there : get_or (set p row w) n 0 ≡ get_or p n 0
@@ -89,18 +87,16 @@ followed_sized p row w =
 -- so after a write Drive Status is right, where it was right before
 pub applied_right : (row w : ℕ) (p : Plant) → Right p → Right (applied row w p)
 applied_right row w p right =
-    applied_by p row w Right (λ l _. right) (λ l _. steered_right _ p right) (λ l e. rw (← e, set-get_or p row 0) right) (λ l d. righted_right _ (followed_sized p row w ∙ right.sized))
+    applied_by p row w Right (λ l. right) (λ l e. rw (← e, set-get_or p row 0) right) (λ l d. righted_right _ (followed_sized p row w ∙ right.sized))
 
 -- ---- a write that is permitted
--- the rows past SCMD but Drive Control and its mask, and those past the table, are read-only
-writable_row : (row : ℕ) → read_only row ≡ false → is_control row ≡ false → row ≤ SCMD
-unfolding read_only line_at rows is_control
-writable_row row e plain = go (ltb SCMD row) refl
+-- the rows past SCMD, and those past the table, are read-only
+writable_row : (row : ℕ) → read_only row ≡ false → row ≤ SCMD
+unfolding read_only line_at rows
+writable_row row e = go (ltb SCMD row) refl
   where
     go : (t : Bool) → ltb SCMD row ≡ t → row ≤ SCMD
-    go true q =
-        absurd (not_both (sym (from_inv_st (λ l. is_read l.class) row refl (ltb-true SCMD row q)
-        (λ d. not_both (either_left _ _ (eq-eqb row Drive-Control d)) plain) (λ d. not_both (either_right (eqb row Drive-Control) _ (eq-eqb row Control-Mask d)) plain))) e)
+    go true q = absurd (not_both (sym (from_inv_st (λ l. is_read l.class) row refl (ltb-true SCMD row q))) e)
     go false q = ltb-false SCMD row q
 
 -- a write is permitted where no refusal applies, and it is the write that was asked
@@ -113,33 +109,13 @@ none_applies (l ∷ ls) row w change e = go l.test (none_applies ls row w change
     go true ih e = (cc, cc)
     go false ih e = ih e
 
--- what is then known: it is the write that was asked, of a row that can be written, by none of the refusals, and the plant is what it makes
-pub record Permits (p : Plant) (row w : ℕ) (change : Change) : Type 0 where
-  pub asked : change ≡ record { row = record { 0 = row }; word = w }
-  pub writable : is_control row ≡ false → row ≤ SCMD
-  pub allowed : Refusals.allowed p row w ≡ true
-  pub unheld : flag_holds p row w ≡ false
-  pub permitted : Refusals.permitted p row w ≡ true
-  pub plant : (written p row w).plant ≡ applied row w p
-
-pub written_permits : (p : Plant) (row w : ℕ) (change : Change) → (written p row w).permit ≡ Write change → Permits p row w change
+-- so it is of a row that can be written, while no flag stands, and the row holds the word then
+pub written_permits : (p : Plant) (row w : ℕ) (change : Change) → (written p row w).permit ≡ Write change
+    → (change ≡ record { row = record { 0 = row }; word = w }) × (row ≤ SCMD) × (flag_stands p ≡ false) × ((written p row w).plant ≡ applied row w p)
 unfolding written permit_of
 written_permits p row w change e =
     let n = none_applies (read_line row ∷ write_lines p row w) row w change e in
     let a = both_out (not (read_only row)) (none_of (write_lines p row w)) n.0 in
-    let b = both_out (not (not (Refusals.allowed p row w))) (both (not (flag_holds p row w)) (both (not (init_running p row)) (both (not (not (Refusals.permitted p row w))) true))) a.1 in
-    let c = both_out (not (flag_holds p row w)) (both (not (init_running p row)) (both (not (not (Refusals.permitted p row w))) true)) b.1 in
-    let d = both_out (not (init_running p row)) (both (not (not (Refusals.permitted p row w))) true) c.1 in
-    record {
-      asked = n.1;
-      writable = writable_row row (not-true (read_only row) a.0);
-      allowed = not-false (Refusals.allowed p row w) (not-true (not (Refusals.allowed p row w)) b.0);
-      unheld = not-true (flag_holds p row w) c.0;
-      permitted = not-false (Refusals.permitted p row w) (not-true (not (Refusals.permitted p row w)) (both_out (not (not (Refusals.permitted p row w))) true d.1).0);
-      plant = ap (λ (k : Permit). after k p) e ∙ ap (λ (k : Change). after (Write k) p) n.1;
-    }
-
--- so of any row but Drive Control and its mask while no flag stands
-pub unheld_calm : (p : Plant) (row w : ℕ) → is_control row ≡ false → flag_holds p row w ≡ false → flag_stands p ≡ false
-unfolding flag_holds
-unheld_calm p row w plain h = sym (both_true (flag_stands p)) ∙ rw plain at h
+    let b = both_out (not (not (allowed p row w))) (both (not (flag_stands p)) (both (not (init_running p row)) (both (not (not (permitted p row w))) true))) a.1 in
+    let c = both_out (not (flag_stands p)) (both (not (init_running p row)) (both (not (not (permitted p row w))) true)) b.1 in
+    (n.1, writable_row row (not-true (read_only row) a.0), not-true (flag_stands p) c.0, ap (λ (k : Permit). after k p) e ∙ ap (λ (k : Change). after (Write k) p) n.1)

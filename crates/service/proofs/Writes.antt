@@ -1,6 +1,5 @@
 -- A write, case by case: each law's premises are what the code's tests and its callees showed. Assumes nothing.
 use mathlib.Core.Path.{◌≡◌, ap, ◌∙◌}
-use mathlib.Core.Bool.{Bool, true, false}
 use Prim.Native.Nat.{ℕ, ◌<◌, ◌≤◌}
 use lib.Dec.{eqb, ltb}
 use lib.ListN.{get_or, set}
@@ -11,22 +10,16 @@ use Rattle.answers.specs.declared.Change.{Change}
 use Rattle.answers.specs.declared.Refusal.{Refusal}
 use Rattle.drive.specs.Plant.{Plant}
 use Rattle.drive.specs.Status.{righted}
-use Rattle.drive.specs.Control.{is_control, control_word, steered}
 use Rattle.permit.specs.declared.Permit.{Permit}
 use Rattle.permit.specs.declared.Permit.TheVariants.{Write, Refused}
 use Rattle.permit.specs.Permit.{permit_of}
-use Rattle.service.specs.Write.{Written, followed, applied_past, applied, written}
-
--- Drive Control or its mask
-pub applied_control : (p after : Plant) (row w asked : ℕ) (steers : Bool) → steers ≡ is_control row → steers ≡ true → asked ≡ control_word p row w → after ≡ steered asked p → after ≡ applied_past row w p
-unfolding applied_past
-applied_control p after row w asked steers control is asks e = simp (← control, is, ← asks, e)
+use Rattle.service.specs.Write.{Written, followed, applied, written}
 
 -- a row holds a word: one past SCMD, the word that it had, a different word
 module _ (p : Plant) (row w : ℕ) where
-  pub applied_past_lem : (after : Plant) → SCMD < row → after ≡ applied_past row w p → after ≡ applied row w p
+  pub applied_past : SCMD < row → p ≡ applied row w p
   unfolding applied
-  applied_past_lem after h e = simp (lt-ltb _ _ h, e)
+  applied_past h = simp (lt-ltb _ _ h)
 
   pub applied_same : row ≤ SCMD → get_or p row 0 ≡ w → set p row w ≡ applied row w p
   unfolding applied
@@ -37,11 +30,11 @@ module _ (p : Plant) (row w : ℕ) where
   applied_different then after h e q r = simp (le-ltb _ _ h, ne_eqb _ _ e) (r ∙ ap righted q)
 
   -- what holds in each of these cases holds after the write
-  pub applied_by : (P : Plant → Type 0) → (SCMD < row → is_control row ≡ false → P p) → (SCMD < row → is_control row ≡ true → P (steered (control_word p row w) p)) → (row ≤ SCMD → get_or p row 0 ≡ w → P (set p row w))
+  pub applied_by : (P : Plant → Type 0) → (SCMD < row → P p) → (row ≤ SCMD → get_or p row 0 ≡ w → P (set p row w))
       → (row ≤ SCMD → (get_or p row 0 ≡ w → ⊥) → P (righted (followed row (set p row w)))) → P (applied row w p)
-  unfolding applied applied_past
-  applied_by P past control same other =
-      pick_both P (ltb SCMD row) (λ e. pick_both P (is_control row) (control (ltb-true SCMD row e)) (past (ltb-true SCMD row e))) (λ e.
+  unfolding applied
+  applied_by P past same other =
+      pick_both P (ltb SCMD row) (λ e. past (ltb-true SCMD row e)) (λ e.
       pick_both P (eqb (get_or p row 0) w) (λ q. same (ltb-false SCMD row e) (eqb-true (get_or p row 0) w q)) (λ q. other (ltb-false SCMD row e) (eqb-false (get_or p row 0) w q)))
 
 module _ (p after : Plant) (row w : ℕ) (r : Permit) (permits : r ≡ permit_of p row w) where

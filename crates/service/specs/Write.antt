@@ -4,7 +4,6 @@ use Rattle.base.specs.Choice.{pick}
 use Rattle.table.specs.Names.{Mode, Setpoint, MODE, SCMD}
 use Rattle.drive.specs.Plant.{Plant, with_scmd}
 use Rattle.drive.specs.Status.{righted}
-use Rattle.drive.specs.Control.{is_control, control_word, steered}
 use Rattle.permit.specs.declared.Permit.{Permit}
 use Rattle.permit.specs.declared.Permit.TheVariants.{Write, Refused}
 use Rattle.permit.specs.Permit.{permit_of}
@@ -13,13 +12,9 @@ use Rattle.permit.specs.Permit.{permit_of}
 unfoldable pub followed : ℕ → Plant → Plant
 followed row p = pick (eqb row Mode) (set p Setpoint 0) (pick (eqb row MODE) (with_scmd 0 p) p)
 
--- Drive Control and its mask: what the word says that was asked for. No other row past SCMD is written
-unfoldable pub applied_past : ℕ → ℕ → Plant → Plant
-applied_past row w p = pick (is_control row) (steered (control_word p row w) p) p
-
--- a row holds this word then, and where it is a different one, Drive Status is made right
+-- a row holds this word then, and where it is a different one, Drive Status is made right; rows past SCMD are never written
 unfoldable pub applied : ℕ → ℕ → Plant → Plant
-applied row w p = pick (ltb SCMD row) (applied_past row w p) (pick (eqb (get_or p row 0) w) (set p row w) (righted (followed row (set p row w))))
+applied row w p = pick (ltb SCMD row) p (pick (eqb (get_or p row 0) w) (set p row w) (righted (followed row (set p row w))))
 
 -- "Refusals 2 to 9 change no state but the time sum"
 abbrev pub after : Permit → Plant → Plant

@@ -1,6 +1,6 @@
 // What a permitted write changes. A refused write changes nothing.
 ghost use Rattle.std.specs.Prelude.{◌≡◌};
-ghost use Rattle.service.specs.Write.{followed, applied_past, applied, written};
+ghost use Rattle.service.specs.Write.{followed, applied, written};
 
 use answers::Change;
 use drive::Plant;
@@ -20,25 +20,13 @@ pub(crate) fn write(plant: &mut Plant, row: Row, word: u32) -> Permit
     permit
 }
 
-// Does what a word of Drive Control, or of its mask, says. No other row past SCMD is written.
-fn apply_past(plant: &mut Plant, change: Change)
-    ensures { plant.new ≡ applied_past change.row.0 change.word plant.old }
-{
-    let row = change.row;
-    if drive::is_control(row) {
-        let asked = drive::control_word(plant, row, change.word);
-        drive::steer(plant, asked);
-    }
-}
-
-// Makes a row hold a word, and where it is a different one, Drive Status right. The rows past SCMD are Drive Control's.
+// Makes a row hold a word, and where it is a different one, Drive Status right. Rows past SCMD are never written.
 fn apply(plant: &mut Plant, change: Change)
     ensures { plant.new ≡ applied change.row.0 change.word plant.old }
 {
     let row = change.row;
     let n = row.0;
     if SCMD < n {
-        apply_past(plant, change);
         return;
     }
     let before = plant[n];

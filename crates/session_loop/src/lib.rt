@@ -12,7 +12,7 @@ ghost use Rattle.session_loop.specs.Handed.{EndsAt, Handed};
 use base::ASCII_REPLY;
 use call::serve;
 use card::{Card, Protocol};
-use drive::{Method, Plant};
+use drive::Plant;
 use identity::{BLANK, Identity};
 use libc::{STDIN_FILENO, STDOUT_FILENO};
 use line::LINE_MOST;
@@ -25,12 +25,12 @@ pub enum Replies {
     Sent(i32),
 }
 
-// The session: reads NFO serial on standard input to its end, from a fresh card on, which is steered by MODE and SCMD, and whose identity nobody asks for there. Each
-// line is written as soon as the last byte of its message was read.
+// The session: reads NFO serial on standard input to its end, from a fresh card on, whose identity nobody asks for there. Each line is written as
+// soon as the last byte of its message was read.
 pub fn run()
     ensures { result ≡ tt }
 {
-    let card = Card::start(Protocol::Nfo, Method::Scmd, BLANK);
+    let card = Card::start(Protocol::Nfo, BLANK);
     let line = card.port;
     let pending = line.pending;
     let mut held = pending.bytes;

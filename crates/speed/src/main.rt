@@ -7,7 +7,6 @@ mod rounds;
 mod workload;
 
 use card::{Card, Protocol};
-use drive::Method;
 use identity::BLANK;
 use libc::{STDERR_FILENO, STDIN_FILENO, STDOUT_FILENO};
 use protocols::Named;
@@ -43,9 +42,9 @@ fn print(word: &[u8], rounds: u64, bytes: usize, tally: Tally) {
     io::write_all(STDOUT_FILENO, &text);
 }
 
-// The rounds over a workload, from a fresh card on, which is steered by MODE and SCMD.
+// The rounds over a workload, from a fresh card on.
 fn run(protocol: Protocol, rounds: u64, bytes: &[u8], ends: &[usize; 4096]) -> Tally {
-    let card = Card::start(protocol, Method::Scmd, BLANK);
+    let card = Card::start(protocol, BLANK);
     let line = card.port;
     let pending = line.pending;
     let mut held = pending.bytes;

@@ -9,7 +9,7 @@ use lib.Dec.{eqb, ltb}
 use lib.ListN.{get_or, drop, get_or-eq_default}
 use Rattle.base.specs.Choice.{pick}
 use Rattle.base.proofs.Arms.{up_from}
-use Rattle.table.specs.Names.{Mode, Drive-Control, Control-Mask, row_count}
+use Rattle.table.specs.Names.{Mode, row_count}
 use Rattle.table.specs.Table.{Entry, Line, rows, line_at, no_line}
 use Rattle.table.specs.declared.lines.Class.TheVariants.{Init, Run}
 
@@ -30,13 +30,13 @@ pub past_table : (n : ℕ) → row_count ≤ n → no_line ≡ line_at n
 unfolding line_at rows
 past_table n h = sym (get_or-eq_default (map (λ (x : Entry). x.line) rows) no_line h)
 
--- a column that is the same from Inv St, ack on to Drive Status as past the table: of every row past SCMD but Drive Control and its mask
+-- a column that is the same from Inv St, ack on to the end of the table as past it
 pub from_inv_st : {A : Type 0} (column : Line → A) (n : ℕ) → map (λ (m : ℕ). column no_line) (up_from 24 7) ≡ map (λ (m : ℕ). column (line_at m)) (up_from 24 7)
-    → 24 ≤ n → (n ≡ Drive-Control → ⊥) → (n ≡ Control-Mask → ⊥) → column no_line ≡ column (line_at n)
-from_inv_st column n e l o m = go (ltb n row_count) refl
+    → 24 ≤ n → column no_line ≡ column (line_at n)
+from_inv_st column n e l = go (ltb n row_count) refl
   where
     go : (t : Bool) → ltb n row_count ≡ t → column no_line ≡ column (line_at n)
-    go true q = let h : n < row_count = ltb-true n row_count q in along (λ m. column no_line) (λ m. column (line_at m)) 24 7 n e l (omega arith)
+    go true q = along (λ m. column no_line) (λ m. column (line_at m)) 24 7 n e l (ltb-true n row_count q)
     go false q = ap column (past_table n (ltb-false n row_count q))
 
 -- from Accel to SCMD each row is Run, but for Mode

@@ -11,8 +11,7 @@ use mathlib.Core.Logic.{◌⊎◌, inl, inr, ⊎_elim}
 use Rattle.base.proofs.Tests.{both_out, either_out, not_both, same_test}
 use Rattle.table.specs.Table.{Parameter, E, no_e, Place, ADI, register, Entry, rows, line_at}
 use Rattle.table.specs.Address.{address, first_register, adi_of}
-use Rattle.table.specs.Find.{first_row, has_e, has_adi, row_of_e, row_of_adi, row_from, row_of_span, is_write, readable, row_to_read}
-use Rattle.table.specs.declared.lines.Class.{Class}
+use Rattle.table.specs.Find.{first_row, has_e, has_adi, row_of_e, row_of_adi, row_from, row_of_span}
 use Rattle.table.specs.declared.labels.AdiNumber.{AdiNumber}
 use Rattle.table.specs.declared.labels.Row.{Row}
 use Rattle.table.specs.declared.labels.FirstOf.{FirstOf}
@@ -93,7 +92,7 @@ no_adi lo hi n keys e l u h =
 
 -- the ADI numbers but 301 to 322
 abbrev pub others : List ℕ
-others = 34 ∷ 35 ∷ 38 ∷ 323 ∷ 125 ∷ 120 ∷ 39 ∷ 19 ∷ 18 ∷ 324 ∷ []
+others = 34 ∷ 35 ∷ 38 ∷ 323 ∷ 125 ∷ 120 ∷ 39 ∷ 19 ∷ []
 
 -- a number outside of 301 to 322 that is none of them is no row's
 pub no_adi_outside : (n : ℕ) → (n < 301) ⊎ (323 ≤ n) → NoneOf n others → NoRow ≡ row_of_adi n
@@ -242,14 +241,3 @@ span_fits r n w f row d e q h = sym (span_is r n ∙ ap (of_width n) (sym d ∙ 
 
 pub span_other : (r n w : ℕ) (f : Found) (row : Row) → f ≡ row_from r → f ≡ At row → w ≡ (line_at row.0).registers → (w ≡ n → ⊥) → NoRow ≡ row_of_span r n
 span_other r n w f row d e q h = sym (span_is r n ∙ ap (of_width n) (sym d ∙ e) ∙ simp (ne_eqb (line_at row.0).registers n (λ z. h (q ∙ z))))
-
--- ---- a row that a read tells
-pub read_none : (r n : ℕ) (f : Found) → f ≡ row_of_span r n → f ≡ NoRow → NoRow ≡ row_to_read r n
-unfolding row_to_read readable
-read_none r n f d e = rw (← d, e)
-
--- an arm of a `match` on the row's class
-pub read_at : (r n : ℕ) (f g : Found) (row : Row) (class k : Class) → f ≡ row_of_span r n → f ≡ At row → class ≡ (line_at row.0).class → class ≡ k
-    → g ≡ pick (is_write k) NoRow (At row) → g ≡ row_to_read r n
-unfolding row_to_read readable
-read_at r n f g row class k d e q h p = p ∙ rw (← d, e, ← q, h)

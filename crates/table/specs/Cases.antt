@@ -1,9 +1,9 @@
 -- Worked cases of the table, in one statement: what a label leads to. Assumes nothing.
 use Rattle.std.specs.Prelude.{◌≡◌, refl, List, [], ◌∷◌, map, ℕ}
-use Rattle.table.specs.Names.{Accel, SpdScl-num, MODE, Inv-St-ack, Inv-St, OpTime, Drive-Status, Drive-Control, Control-Mask}
-use Rattle.table.specs.Table.{rows, line_at}
+use Rattle.table.specs.Names.{Accel, SpdScl-num, MODE, Inv-St-ack, Inv-St, OpTime, Drive-Status}
+use Rattle.table.specs.Table.{rows}
 use Rattle.table.specs.Address.{address, first_register}
-use Rattle.table.specs.Find.{first_row, row_of_e, row_of_span, readable, row_to_read}
+use Rattle.table.specs.Find.{first_row, row_of_e, row_of_span}
 use Rattle.table.specs.declared.labels.Found.{Found}
 use Rattle.table.specs.declared.labels.Found.TheVariants.{At, NoRow}
 
@@ -34,15 +34,8 @@ labels =
     ∷ leads (row_of_span 0x0258 1) (at Drive-Status)
     ∷ leads (row_of_span 0x0258 2) NoRow
     ∷ leads (row_of_span 0x0259 1) NoRow
-    ∷ leads (row_of_span 0x0254 1) (at Drive-Control)
-    ∷ leads (row_of_span 0x0254 2) NoRow
-    ∷ leads (row_of_span 0x071C 2) (at Control-Mask)
-    ∷ leads (row_of_span 0x071C 1) NoRow
-    ∷ leads (row_of_span 0x071D 1) NoRow
-    ∷ leads (row_to_read 0x0254 1) (at Drive-Control)
-    ∷ leads (row_to_read 0x071C 2) NoRow
     ∷ []
 
 pub labels_lead : map (λ (l : Leads). l.found) labels ≡ map (λ (l : Leads). l.right) labels
-unfolding labels row_of_e row_of_span readable row_to_read first_row rows line_at first_register address
+unfolding labels row_of_e row_of_span first_row rows first_register address
 labels_lead = refl

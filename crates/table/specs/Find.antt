@@ -1,10 +1,8 @@
 -- From a label on the line to its row. Assumes nothing.
-use Rattle.std.specs.Prelude.{Bool, true, false, List, [], ◌∷◌, ℕ, eqb}
+use Rattle.std.specs.Prelude.{Bool, false, List, [], ◌∷◌, ℕ, eqb}
 use Rattle.base.specs.Choice.{pick, both}
-use Rattle.table.specs.Table.{Parameter, E, no_e, Place, ADI, register, Entry, rows, line_at}
+use Rattle.table.specs.Table.{Parameter, E, no_e, Place, ADI, register, Entry, rows}
 use Rattle.table.specs.Address.{first_register}
-use Rattle.table.specs.declared.lines.Class.{Class}
-use Rattle.table.specs.declared.lines.Class.TheVariants.{Init, Run, OnlyRead, OnlyWrite}
 use Rattle.table.specs.declared.labels.Found.{Found}
 use Rattle.table.specs.declared.labels.Found.TheVariants.{At, NoRow}
 
@@ -36,17 +34,3 @@ row_from first = first_row (λ (r : Entry). eqb (first_register r.place) first) 
 -- "A row's registers are read or written all in one message and only its own: start at its first, count its width"
 unfoldable pub row_of_span : ℕ → ℕ → Found
 row_of_span first count = first_row (λ (r : Entry). both (eqb (first_register r.place) first) (eqb r.line.registers count)) rows
-
--- ---- the row that a read of these registers tells: "2 for a read of the mask", the row that is only written
-abbrev pub is_write : Class → Bool
-is_write Init = false
-is_write Run = false
-is_write OnlyRead = false
-is_write OnlyWrite = true
-
-unfoldable pub readable : Found → Found
-readable (At row) = pick (is_write (line_at row.0).class) NoRow (At row)
-readable NoRow = NoRow
-
-unfoldable pub row_to_read : ℕ → ℕ → Found
-row_to_read first count = readable (row_of_span first count)

@@ -94,12 +94,6 @@ OpTime = 29
 abbrev pub Drive-Status : ℕ
 Drive-Status = 30
 
-abbrev pub Drive-Control : ℕ
-Drive-Control = 31
-
-abbrev pub Control-Mask : ℕ
-Control-Mask = 32
-
 -- how many rows there are
 abbrev pub row_count : ℕ
-row_count = 33
+row_count = 31

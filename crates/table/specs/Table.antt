@@ -1,10 +1,10 @@
 -- The settings table of document 01, a line for a line, and the rows that document 02 adds. Assumes nothing.
 use Rattle.std.specs.Prelude.{◌≡◌, refl, List, [], ◌∷◌, map, ℕ, length, get_or, ℤ, pos, neg_ℤ}
-use Rattle.table.specs.Names.{P-Nom, U-Nom, f-Nom, N-Nom, cosφ, I-magn, I-limt, Accel, Retard, Mode, Fr-Min, Fr-Max, R-fix1, RegAmp, SiBaud, SiProt, SiAdr, SioTot, MbAdr, SpdScl-num, SpdScl-den, Setpoint, MODE, SCMD, Inv-St-ack, Inv-St, SioErr, FrqAct, I-rms, OpTime, Drive-Status, Drive-Control, Control-Mask, row_count}
+use Rattle.table.specs.Names.{P-Nom, U-Nom, f-Nom, N-Nom, cosφ, I-magn, I-limt, Accel, Retard, Mode, Fr-Min, Fr-Max, R-fix1, RegAmp, SiBaud, SiProt, SiAdr, SioTot, MbAdr, SpdScl-num, SpdScl-den, Setpoint, MODE, SCMD, Inv-St-ack, Inv-St, SioErr, FrqAct, I-rms, OpTime, Drive-Status, row_count}
 use Rattle.table.specs.declared.lines.Allowed.{Allowed}
-use Rattle.table.specs.declared.lines.Allowed.TheVariants.{Between, OneOf, BelowLimt, AboveMagn, ByMode, AnyWord, Nothing}
+use Rattle.table.specs.declared.lines.Allowed.TheVariants.{Between, OneOf, BelowLimt, AboveMagn, ByMode, Nothing}
 use Rattle.table.specs.declared.lines.Class.{Class}
-use Rattle.table.specs.declared.lines.Class.TheVariants.{Init, Run, OnlyRead, OnlyWrite}
+use Rattle.table.specs.declared.lines.Class.TheVariants.{Init, Run, OnlyRead}
 
 -- ---- the columns
 -- E: an E number, or `-`
@@ -55,9 +55,8 @@ abbrev pub row : ℕ → Parameter → Place → ℕ → Allowed → Class → S
 row name e place registers allowed class start =
     record { name = name; parameter = e; place = place; line = record { registers = registers; allowed = allowed; class = class; start = start } }
 
--- |Name|E|ADI|registers|Allowed|Class|Start|. The last three rows are document 02's: "Add the read-only row ADI 19, register 0258h"; "It has no E number". It starts with bit 6, for
--- DIN1 is inactive then. "Add the row ADI 18, register 0254h", in which every word is allowed: "The stored word starts at 0". "Add the write-only mask row (house ADI 324, two
--- registers, AND mask first)"
+-- |Name|E|ADI|registers|Allowed|Class|Start|. The last row is document 02's: "Add the read-only row ADI 19, register 0258h"; "It has no E number". It starts with bit 6, for
+-- DIN1 is inactive then
 unfoldable pub rows : List Entry
 rows =
     row P-Nom (E 0x0008) (ADI 301) 1 (between 1 10000) Init (Word 150)
@@ -91,12 +90,10 @@ rows =
     ∷ row I-rms no_e (ADI 120) 2 Nothing OnlyRead (Word 0)
     ∷ row OpTime no_e (ADI 39) 2 Nothing OnlyRead (Word 0)
     ∷ row Drive-Status no_e (ADI 19) 1 Nothing OnlyRead (Word 64)
-    ∷ row Drive-Control no_e (ADI 18) 1 AnyWord Run (Word 0)
-    ∷ row Control-Mask no_e (ADI 324) 2 AnyWord OnlyWrite NoWord
     ∷ []
 
 -- a name is the line's place in the table
-pub names : map (λ (r : Entry). r.name) rows ≡ 0 ∷ 1 ∷ 2 ∷ 3 ∷ 4 ∷ 5 ∷ 6 ∷ 7 ∷ 8 ∷ 9 ∷ 10 ∷ 11 ∷ 12 ∷ 13 ∷ 14 ∷ 15 ∷ 16 ∷ 17 ∷ 18 ∷ 19 ∷ 20 ∷ 21 ∷ 22 ∷ 23 ∷ 24 ∷ 25 ∷ 26 ∷ 27 ∷ 28 ∷ 29 ∷ 30 ∷ 31 ∷ 32 ∷ []
+pub names : map (λ (r : Entry). r.name) rows ≡ 0 ∷ 1 ∷ 2 ∷ 3 ∷ 4 ∷ 5 ∷ 6 ∷ 7 ∷ 8 ∷ 9 ∷ 10 ∷ 11 ∷ 12 ∷ 13 ∷ 14 ∷ 15 ∷ 16 ∷ 17 ∷ 18 ∷ 19 ∷ 20 ∷ 21 ∷ 22 ∷ 23 ∷ 24 ∷ 25 ∷ 26 ∷ 27 ∷ 28 ∷ 29 ∷ 30 ∷ []
 unfolding rows
 names = refl
 

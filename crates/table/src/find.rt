@@ -1,9 +1,8 @@
 // From a label on the line to its row.
 ghost use Rattle.std.specs.Prelude.{◌≡◌, ◌≤◌, ◌<◌};
-ghost use Rattle.table.specs.Find.{row_of_e, row_of_adi, row_from, row_of_span, row_to_read};
+ghost use Rattle.table.specs.Find.{row_of_e, row_of_adi, row_from, row_of_span};
 
 use crate::labels::{AdiNumber, ENumber, FirstOf, Found, Register, Row};
-use crate::lines::Class;
 use crate::names::*;
 
 impl ENumber {
@@ -111,8 +110,6 @@ impl AdiNumber {
             120 => Found::At(Row(I_RMS)),
             39 => Found::At(Row(OP_TIME)),
             19 => Found::At(Row(DRIVE_STATUS)),
-            18 => Found::At(Row(DRIVE_CONTROL)),
-            324 => Found::At(Row(CONTROL_MASK)),
             _ => Found::NoRow,
         }
     }
@@ -143,21 +140,5 @@ impl Register {
             return Found::At(row);
         }
         Found::NoRow
-    }
-
-    // The row that a read of `count` registers from this one on tells: a row that is only written is told by none.
-    pub fn to_read(self, count: u16) -> Found
-        ensures { result ≡ row_to_read self.0 count }
-    {
-        let Found::At(row) = self.span(count) else {
-            return Found::NoRow;
-        };
-        let class = row.class();
-        match class {
-            Class::Init => Found::At(row),
-            Class::Run => Found::At(row),
-            Class::OnlyRead => Found::At(row),
-            Class::OnlyWrite => Found::NoRow,
-        }
     }
 }

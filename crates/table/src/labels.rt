@@ -12,7 +12,7 @@ pub struct AdiNumber(pub u16);
 #[derive(Clone, Copy)]
 pub struct Register(pub u16);
 
-// A row, by its line in the table, counted from 0. There are 33; a greater number is a row that allows nothing and has no register.
+// A row, by its line in the table, counted from 0. There are 31; a greater number is a row that allows nothing and has no register.
 #[derive(Clone, Copy)]
 pub struct Row(pub usize);
 

@@ -5,13 +5,12 @@ ghost use Rattle.table.specs.Table.{line_at};
 use crate::labels::Row;
 use crate::names::*;
 
-// "Run" rows are writable always, "Init" rows only when not running, "read" rows never. A row that is only written is told by no read.
+// "Run" rows are writable always, "Init" rows only when not running, "read" rows never.
 #[derive(Clone, Copy)]
 pub enum Class {
     Init,
     Run,
     OnlyRead,
-    OnlyWrite,
 }
 
 // What the column Allowed says. `Nothing` is `-`.
@@ -26,8 +25,6 @@ pub enum Allowed {
     AboveMagn(i32),
     // Setpoint's ranges
     ByMode,
-    // every word of the row's width
-    AnyWord,
     Nothing,
 }
 
@@ -38,8 +35,8 @@ impl Row {
     {
         let row = self.0;
         match row {
-            SPD_SCL_NUM | SPD_SCL_DEN | I_RMS | OP_TIME | CONTROL_MASK => 2,
-            P_NOM..=DRIVE_CONTROL => 1,
+            SPD_SCL_NUM | SPD_SCL_DEN | I_RMS | OP_TIME => 2,
+            P_NOM..=DRIVE_STATUS => 1,
             _ => 0,
         }
     }
@@ -51,8 +48,7 @@ impl Row {
         let row = self.0;
         match row {
             P_NOM..=I_LIMT | MODE_SETTING => Class::Init,
-            ACCEL..=SCMD | DRIVE_CONTROL => Class::Run,
-            CONTROL_MASK => Class::OnlyWrite,
+            ACCEL..=SCMD => Class::Run,
             _ => Class::OnlyRead,
         }
     }

@@ -61,9 +61,5 @@ pub const OP_TIME: usize = 29;
 
 pub const DRIVE_STATUS: usize = 30;
 
-pub const DRIVE_CONTROL: usize = 31;
-
-pub const CONTROL_MASK: usize = 32;
-
 // How many rows there are.
-pub const ROWS: usize = 33;
+pub const ROWS: usize = 31;

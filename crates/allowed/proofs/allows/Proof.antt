@@ -1,11 +1,9 @@
--- `allowed::allows` meets its contract: each arm's rule is the one of the row's line, and the other rows past SCMD allow nothing. Assumes nothing.
-use mathlib.Core.List.{[], ◌∷◌}
+-- `allowed::allows` meets its contract: each arm's rule is the one of the row's line, and the rows past SCMD allow nothing. Assumes nothing.
 use borrow.Author.Rules.{rules}
 use Rattle.base.proofs.Arms.{rest_none, up_from}
-use Rattle.table.specs.Names.{Drive-Control, Control-Mask}
 use Rattle.table.specs.Table.{rows, line_at}
 use Rattle.allowed.specs.Allowed.{twos}
-use Rattle.allowed.proofs.Words.{row_range, row_wide, row_list, row_about, row_limt, row_magn, row_setpoint, row_any, row_any_long, past_scmd}
+use Rattle.allowed.proofs.Words.{row_range, row_wide, row_list, row_about, row_limt, row_magn, row_setpoint, past_scmd}
 use Rattle.allowed.proofs.allows.Statement.{statement}
 use Rattle.allowed.proofs.allows.Tie as tie
 
@@ -62,6 +60,4 @@ allows-spec =
     (λ c. search row_setpoint)
     (λ c. search row_list)
     (λ c. search row_list)
-    (λ c. search row_any)
-    (λ c. search row_any_long)
-    (λ c. let r = rest_none _ (Drive-Control ∷ Control-Mask ∷ []) c.match.rest in past_scmd _ _ _ (rest_none _ (up_from 0 24) r.0).1 r.1))
+    (λ c. past_scmd _ _ _ (rest_none _ (up_from 0 24) c.match.rest).1))

@@ -18,6 +18,7 @@ run_spec =
     invariant-loop
     decreases-loop
     (λ c κs. search rules)
+    (λ c κs. search rules)
     (λ c. search rules)
     (λ c. search rules)
     (λ c κs. search rules)

@@ -13,8 +13,6 @@ is-init-running-spec =
     (λ c κs. search rules)
     (λ c. search rules)
     (λ c. search rules)
-    (λ c. search rules)
-    (λ c. search init_running_at)
     (λ c. search init_running_at)
     (λ c. search init_running_at)
     (λ c. search init_running_at))

@@ -14,7 +14,7 @@ permits c =
     c.before.before.before.before.before.before.before.before.if1.false
     c.before.before.before.before.before.before.before.is-allowed.ensures
     c.before.before.before.before.before.before.if2.false
-    c.before.before.before.before.before.flag-holds.ensures
+    c.before.before.before.before.before.flag-stands.ensures
     c.before.before.before.before.if3.false
     c.before.before.before.is-init-running.ensures
     c.before.before.if4.false

@@ -14,8 +14,6 @@ read-only-spec =
     (λ c. search rules)
     (λ c. search rules)
     (λ c. search rules)
-    (λ c. search rules)
-    (λ c. search (at_class is_read))
     (λ c. search (at_class is_read))
     (λ c. search (at_class is_read))
     (λ c. search (at_class is_read)))

@@ -20,15 +20,15 @@ columns-requires-3 c κs = search rules
 bytes-requires : tie.Need-bytes-requires
 bytes-requires c κs = search rules
 
-spaced-all-requires : tie.Need-spaced-all-requires
-spaced-all-requires c κs = search rules
+spaced-requires : tie.Need-spaced-requires
+spaced-requires c κs = search rules
 
 same_length : tie.Need-same-length
 same_length c = search rules
 
 returns : tie.Need-returns
 unfolding state_of
-returns c = then _ _ _ _ _ _ _ _ c.before.before.before.before.before.before.before.before.before.before.before.before.before.before.before.before.before.before.columns.ensures (then _ _ _ _ _ _ _ _ c.before.before.before.before.before.before.before.before.before.before.before.before.before.before.columns2.ensures (then _ _ _ _ _ _ _ _ c.before.before.before.before.before.before.before.before.before.before.columns3.ensures (then _ _ _ _ _ _ _ _ c.before.before.before.before.before.before.bytes.ensures c.before.before.spaced-all.ensures)))
+returns c = then _ _ _ _ _ _ _ _ c.before.before.before.before.before.before.before.before.before.before.before.before.before.before.before.before.before.before.columns.ensures (then _ _ _ _ _ _ _ _ c.before.before.before.before.before.before.before.before.before.before.before.before.before.before.columns2.ensures (then _ _ _ _ _ _ _ _ c.before.before.before.before.before.before.before.before.before.before.columns3.ensures (then _ _ _ _ _ _ _ _ c.before.before.before.before.before.before.bytes.ensures c.before.before.spaced.ensures)))
 
 pub state-line-spec : {M : Type 1} → statement M
 state-line-spec =
@@ -39,6 +39,6 @@ state-line-spec =
     columns-requires-2
     columns-requires-3
     bytes-requires
-    spaced-all-requires
+    spaced-requires
     same_length
     returns)

@@ -1,10 +1,9 @@
--- `drive::raise_flags` meets its contract: the mask is the definition's, and the word is stored before the flags. Assumes nothing.
+-- `drive::raise_flags` meets its contract: the mask is the definition's. Assumes nothing.
 use borrow.Author.Rules.{rules}
-use Rattle.drive.proofs.Laws.{flag_raised_lem}
 use Rattle.drive.specs.Faults.{flag_raised}
 use Rattle.drive.proofs.faults.raise_flags.Statement.{statement}
 use Rattle.drive.proofs.faults.raise_flags.Tie as tie
 
 pub raise-flags-spec : {M : Type 1} → statement M
 unfolding flag_raised
-raise-flags-spec = tie.close (tie.spec (λ c. search rules) (λ c κs. search rules) (λ c κs. search rules) (λ c. search flag_raised_lem))
+raise-flags-spec = tie.close (tie.spec (λ c. search rules) (λ c κs. search rules) (λ c. search rules))

@@ -12,7 +12,6 @@ restart-spec =
     (tie.spec
     (λ c. search rules)
     (λ c. search rules)
-    (λ c _. search rules)
     (λ c. search rules)
     (λ c. search rules)
     (λ c. search rules)

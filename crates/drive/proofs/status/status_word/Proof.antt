@@ -1,12 +1,10 @@
--- `drive::status_word` meets its contract: a law for MODE 3, and one for another. Assumes nothing.
+-- `drive::status_word` meets its contract: a law for each MODE. Assumes nothing.
 use borrow.Author.Rules.{rules}
-use Rattle.drive.proofs.Laws.{word_bus, word_other}
-use Rattle.drive.specs.Bits.{is_set}
+use Rattle.drive.proofs.Laws.{word_bus, word_auto, word_other}
 use Rattle.drive.proofs.status.status_word.Statement.{statement}
 use Rattle.drive.proofs.status.status_word.Tie as tie
 
 pub status-word-spec : {M : Type 1} → statement M
-unfolding is_set
 status-word-spec =
     tie.close
     (tie.spec
@@ -16,9 +14,10 @@ status-word-spec =
     (λ c κs. search rules)
     (λ c. search rules)
     (λ c κs. search rules)
-    (λ c κs. search rules)
-    (λ c κs. search rules)
     (λ c. search rules)
     (λ c κs. search rules)
     (λ c. search word_bus)
+    (λ c. search rules)
+    (λ c κs. search rules)
+    (λ c. search word_auto)
     (λ c. search word_other))

@@ -7,4 +7,4 @@ use Rattle.linecard.proofs.events.card_start_in.Tie as tie
 
 pub card-start-in-spec : {M : Type 1} → statement M
 unfolding empty
-card-start-in-spec = tie.close (tie.spec (λ c κs. search rules) (λ c κs. search rules) (λ c κs. search rules) (λ c κs. search rules) (λ c. search started_in))
+card-start-in-spec = tie.close (tie.spec (λ c κs. search rules) (λ c κs. search rules) (λ c κs. search rules) (λ c. search started_in))

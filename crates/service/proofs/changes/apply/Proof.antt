@@ -1,6 +1,6 @@
 -- `service::changes::apply` meets its contract: a row past SCMD, the word that it had, a different word. Assumes nothing.
 use borrow.Author.Rules.{rules}
-use Rattle.service.proofs.Writes.{applied_past_lem, applied_same, applied_different}
+use Rattle.service.proofs.Writes.{applied_past, applied_same, applied_different}
 use Rattle.service.proofs.changes.apply.Statement.{statement}
 use Rattle.service.proofs.changes.apply.Tie as tie
 
@@ -8,8 +8,7 @@ pub apply-spec : {M : Type 1} → statement M
 apply-spec =
     tie.close
     (tie.spec
-    (λ c κs. search rules)
-    (λ c. search applied_past_lem)
+    (λ c. search applied_past)
     (λ c. search rules)
     (λ c. search rules)
     (λ c. search rules)

@@ -27,6 +27,4 @@ row-spec =
     (λ c. search (at_key row_of_adi))
     (λ c. search (at_key row_of_adi))
     (λ c. search (at_key row_of_adi))
-    (λ c. search (at_key row_of_adi))
-    (λ c. search (at_key row_of_adi))
     (λ c. no_adi_outside _ (⊎_elim (λ p. inr p.1.left) (λ q. inl q.left) c.before.if1.branch) (rest_none _ others c.match.rest).1))

@@ -11,9 +11,7 @@ unfolding line_at rows
 class-spec =
     tie.close
     (tie.spec
-    (λ c. search (at_key (λ n. (line_at n).class)))
-    (λ c. search (from_inv_st (λ l. l.class)))
-    (λ c. search (at_key (λ n. (line_at n).class)))
     (λ c. search run_at)
+    (λ c. search (from_inv_st (λ l. l.class)))
     (λ c. search (at_key (λ n. (line_at n).class)))
     (λ c. search (along_0 (λ n. Init) (λ n. (line_at n).class) 7)))
