@@ -1,6 +1,8 @@
 // Which numbers a row allows: the column Allowed of the settings table.
 //
 // I-magn and I-limt bound each other and Mode bounds Setpoint, so the words of these three go in with the word that is asked about.
+#![tactic(auto)]
+
 mod rules;
 
 ghost use Rattle.std.specs.Prelude.{◌≡◌};

@@ -1,4 +1,6 @@
 // What serving a message comes to, by any protocol, and document 01's number for it.
+#![tactic(auto)]
+
 ghost use Rattle.std.specs.Prelude.{◌≡◌};
 ghost use Rattle.answers.specs.Answer.{refusal_number, answer_number};
 

@@ -1,5 +1,7 @@
 // The three checks of the line: BCC of NFO serial, LRC of Modbus ASCII, CRC-16 of Modbus RTU.
 // `bcc`, `lrc` and `crc` make them; `adds_to_zero` and `crc_holds` test them.
+#![tactic(auto)]
+
 ghost use Rattle.std.specs.Prelude.{◌≡◌, ◌+◌, ◌*◌};
 ghost use Rattle.checks.specs.Bcc.{bcc_of};
 ghost use Rattle.checks.specs.Lrc.{sum_of, adds_to_zero, lrc_after};

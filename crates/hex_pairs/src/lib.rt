@@ -1,5 +1,7 @@
 // Hex digits, and bytes as pairs of them: capitals and small letters are read, capitals are written.
 // `digit_value`, `digit_of` and `capital_of` turn one character, `pair_value` two, `encode` and `decode` whole slices.
+#![tactic(auto)]
+
 ghost use Rattle.std.specs.Prelude.{◌≡◌, min, length, slice_set};
 ghost use Rattle.std.proofs.lemmas.List.Edits.{sets};
 ghost use Rattle.hex_pairs.specs.Hex.{digit_value, digit_of, capital_of, pair_value, hex_of, bytes_of};

@@ -58,14 +58,14 @@ chosen first last [] = []
 chosen first last (o ∷ os) = pick (within first last o) (o ∷ chosen first last os) (chosen first last os)
 
 -- "from the first object named, or from 00h if that lies outside"
-unfoldable pub up_to_lem : (code object last : ℕ) → Part
-up_to_lem code object last = pick (ltb last object) (Objects code 0x00 last) (Objects code object last)
+unfoldable pub up_to : (code object last : ℕ) → Part
+up_to code object last = pick (ltb last object) (Objects code 0x00 last) (Objects code object last)
 
 -- "with 01 up to 02h, with 02 up to 06h"; with 04 the one named: "unknown object with code 04 is 2"
 unfoldable pub objects_asked : (code object : ℕ) → Named
 objects_asked code object =
-    pick (eqb code 1) (Names.Part (up_to_lem code object 0x02))
-    (pick (eqb code 2) (Names.Part (up_to_lem code object 0x06))
+    pick (eqb code 1) (Names.Part (up_to code object 0x02))
+    (pick (eqb code 2) (Names.Part (up_to code object 0x06))
     (pick (ltb 0x06 object) Names.NoObject (Names.Part (Objects code object object))))
 
 -- ---- what is told, as a data unit

@@ -1,8 +1,10 @@
 // The identity of a card: revision, model and serial number, given at start and changed by no message; and which part of it a master asks for.
 //
 // `objects_asked` says which objects an identification code asks for. What a part holds, byte by byte, is in `specs/Identity`; `modbus` writes it.
+#![tactic(auto)]
+
 ghost use Rattle.std.specs.Prelude.{◌≡◌};
-ghost use Rattle.identity.specs.Identity.{up_to_lem, objects_asked};
+ghost use Rattle.identity.specs.Identity.{up_to, objects_asked};
 
 // How many bytes an identity has.
 pub const LENGTH: usize = 41;
@@ -58,7 +60,7 @@ pub fn objects_asked(code: u8, object: u8) -> Named
 
 // The objects up to `last`: from the one named, or from 00h if that lies outside.
 fn up_to(code: u8, object: u8, last: u8) -> Part
-    ensures { result ≡ up_to_lem code object last }
+    ensures { result ≡ up_to code object last }
 {
     if last < object {
         return Part::Objects(code, 0, last);

@@ -1,5 +1,7 @@
 // Words and 32-bit values, as bytes of a data unit of Modbus: `byte_at`, `word_at` and `long_at` read them at a place. Every place can be read;
 // bytes past the end count as 0.
+#![tactic(auto)]
+
 ghost use Rattle.std.specs.Prelude.{◌≡◌, get_or};
 ghost use Rattle.modbus_words.specs.Words.{word_at, long_at};
 

@@ -1,5 +1,7 @@
 // The bytes pending on a line, and what a scan of more bytes hands back: shared by the protocols that come as streams.
 // `Pending::empty` and `emptied` hold nothing; `push` and `begin_with` take one byte into the lent array, so that a scan copies no array.
+#![tactic(auto)]
+
 ghost use Rattle.std.specs.Prelude.{◌≡◌};
 ghost use Rattle.pending.specs.Held.{empty, pushed, emptied, began_with};
 
@@ -42,7 +44,7 @@ impl Pending {
 
 // Puts `b` after the first `len` bytes, and tells how many there are then. A full array stays as it is.
 pub fn push(bytes: &mut [u8; 512], len: usize, b: u8) -> usize
-    ensures { record { bytes = bytes.exit.now; len = result } ≡ pushed (record { bytes = bytes.entry.now; len = len }) b }
+    ensures { record { bytes = bytes.new; len = result } ≡ pushed (record { bytes = bytes.old; len = len }) b }
 {
     if len < 512 {
         bytes[len] = b;
@@ -53,7 +55,7 @@ pub fn push(bytes: &mut [u8; 512], len: usize, b: u8) -> usize
 
 // Puts `b` first, alone: there is one byte then.
 pub fn begin_with(bytes: &mut [u8; 512], b: u8) -> usize
-    ensures { record { bytes = bytes.exit.now; len = result } ≡ began_with (record { bytes = bytes.entry.now; len = 0 }) b }
+    ensures { record { bytes = bytes.new; len = result } ≡ began_with (record { bytes = bytes.old; len = 0 }) b }
 {
     bytes[0] = b;
     1

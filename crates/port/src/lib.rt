@@ -1,5 +1,6 @@
 // The numbers of a port besides its bytes pending: its protocol, its time sum and its SioErr. They lie in one array, each at its name, so that a call is lent
 // them where they lie.
+#![tactic(auto)]
 
 // The numbers of one port. Any words are a port's.
 pub type Numbers = [u32; 3];

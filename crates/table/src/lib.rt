@@ -2,6 +2,8 @@
 //
 // A row is known by its line in the table, counted from 0. The three kinds of label lead to it, and no other way leads from one kind to another
 // but the address rule. What numbers a row allows is the crate `allowed`.
+#![tactic(auto)]
+
 mod find;
 mod labels;
 mod lines;

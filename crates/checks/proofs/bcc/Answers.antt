@@ -1,0 +1,14 @@
+-- `checks::bcc` meets its contract. The invariant: the exclusive-or of the bytes left, from `x` on, is that of the whole. Assumes nothing.
+use Rattle.base.proofs.Lists.{fold_starts, fold_again, fold_done}
+use Rattle.checks.specs.Bcc.{bcc_of}
+use Rattle.checks.proofs.bcc.Goals as goal
+
+pub loop-i-init : goal.loop-i-init
+loop-i-init c = search fold_starts
+
+pub loop-i-preserved : goal.loop-i-preserved
+loop-i-preserved c = search fold_again
+
+pub returns : goal.returns
+unfolding bcc_of
+returns c = search fold_done
