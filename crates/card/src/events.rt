@@ -30,7 +30,7 @@ pub fn event_outcome(known: bool) -> Outcome
 
 // A fault of the port: its bit in SioErr, and at MODE 3 flag 14.
 fn port_fault(port: &mut Numbers, plant: &mut Plant, bit: u32)
-    ensures { record { port = port.exit.now; plant = plant.new } ≡ port_faulted bit (record { port = port.entry.now; plant = plant.old }) }
+    ensures { record { port = port.new; plant = plant.new } ≡ port_faulted bit (record { port = port.old; plant = plant.old }) }
 {
     port[SIOERR] = port[SIOERR] | bit;
     drive::port_fault(plant);
@@ -38,7 +38,7 @@ fn port_fault(port: &mut Numbers, plant: &mut Plant, bit: u32)
 
 // The host tells a parity fault of the port.
 pub fn parity_fault_in(port: &mut Numbers, plant: &mut Plant)
-    ensures { record { port = port.exit.now; plant = plant.new } ≡ port_faulted Parity (record { port = port.entry.now; plant = plant.old }) }
+    ensures { record { port = port.new; plant = plant.new } ≡ port_faulted Parity (record { port = port.old; plant = plant.old }) }
 {
     port_fault(port, plant, PARITY);
 }
@@ -52,7 +52,7 @@ fn more(sum: u32, tenths: u32) -> u64
 
 // The time sum with some tenths more, up to a limit.
 fn count_to(port: &mut Numbers, plant: &mut Plant, limit: u32, tenths: u32)
-    ensures { record { port = port.exit.now; plant = plant.new } ≡ counted limit tenths (record { port = port.entry.now; plant = plant.old }) }
+    ensures { record { port = port.new; plant = plant.new } ≡ counted limit tenths (record { port = port.old; plant = plant.old }) }
 {
     if limit == 0 {
         port[SUM] = 0;
@@ -69,7 +69,7 @@ fn count_to(port: &mut Numbers, plant: &mut Plant, limit: u32, tenths: u32)
 
 // So many tenths pass on the port: 1 to 250, else 12. Where the sum goes above SioTot a time-out happens.
 pub fn tick_in(port: &mut Numbers, plant: &mut Plant, tenths: u32) -> Outcome
-    ensures { record { core = record { port = port.exit.now; plant = plant.new }; outcome = result } ≡ ticked_in tenths (record { port = port.entry.now; plant = plant.old }) }
+    ensures { record { core = record { port = port.new; plant = plant.new }; outcome = result } ≡ ticked_in tenths (record { port = port.old; plant = plant.old }) }
 {
     if tenths < 1 {
         return Outcome::NoSuchEvent;

@@ -28,7 +28,7 @@ fn is_fault(n: u32) -> bool
 
 // Raises fault n: its cause stands, its flag is raised, and the drive stops. Tells whether there is a fault of that number; where there is none, nothing changes.
 pub fn raise_fault(plant: &mut Plant, n: u32) -> bool
-    ensures { record { plant = plant.exit.now; known = result } ≡ raised n plant.entry.now }
+    ensures { record { plant = plant.new; known = result } ≡ raised n plant.old }
 {
     if is_fault(n) {
         let mask = 1u32 << n;
@@ -42,7 +42,7 @@ pub fn raise_fault(plant: &mut Plant, n: u32) -> bool
 
 // Ends the cause of fault n. Its flag stays. Tells whether there is a fault of that number.
 pub fn end_cause(plant: &mut Plant, n: u32) -> bool
-    ensures { record { plant = plant.exit.now; known = result } ≡ ended n plant.entry.now }
+    ensures { record { plant = plant.new; known = result } ≡ ended n plant.old }
 {
     if is_fault(n) {
         let mask = 1u32 << n;

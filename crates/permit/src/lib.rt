@@ -1,4 +1,6 @@
 // Whether a row may be written now: document 01's refusals 3 to 7, in its order.
+#![tactic(auto)]
+
 ghost use Rattle.std.specs.Prelude.{◌≡◌};
 ghost use Rattle.permit.specs.Refusals.{read_only, allowed, init_running, permitted};
 ghost use Rattle.permit.specs.Permit.{permit_of};

@@ -1,6 +1,8 @@
 // Reading a row: the word that it tells, and what the read does.
 //
 // A row tells the word that stands at its line in the plant, but for Inv St, which is worked out, and SioErr, which is the port's.
+#![tactic(auto)]
+
 mod status;
 
 ghost use Rattle.std.specs.Prelude.{◌≡◌};
@@ -14,7 +16,7 @@ use table::names::*;
 
 // Reads a row: tells its word, then acknowledges where the row is Inv St, ack, and zeroes SioErr and flag 14 where it is SioErr. Any other row changes nothing.
 pub fn read(plant: &mut Plant, port: &mut Numbers, row: Row) -> u32
-    ensures { record { plant = plant.exit.now; port = port.new; word = result } ≡ told plant.entry.now port.old row.0 }
+    ensures { record { plant = plant.new; port = port.new; word = result } ≡ told plant.old port.old row.0 }
 {
     let n = row.0;
     if n == INV_ST_ACK {

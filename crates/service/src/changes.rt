@@ -10,7 +10,7 @@ use table::names::*;
 
 // Writes a row where that is permitted, and tells what was written or the refusal.
 pub(crate) fn write(plant: &mut Plant, row: Row, word: u32) -> Permit
-    ensures { record { plant = plant.exit.now; permit = result } ≡ written plant.entry.now row.0 word }
+    ensures { record { plant = plant.new; permit = result } ≡ written plant.old row.0 word }
 {
     let permit = permit_of(plant, row, word);
     let Permit::Write(change) = permit else {

@@ -1,4 +1,6 @@
 // What serving a message does, by either protocol, and what it comes to: `write` writes a row where that is permitted. A row is read by the crate `reading`.
+#![tactic(auto)]
+
 mod changes;
 
 ghost use Rattle.std.specs.Prelude.{◌≡◌};

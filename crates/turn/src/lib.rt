@@ -1,5 +1,7 @@
 // What a call on bytes from the line hands back, by any protocol: a `Turn` with the whole card, or a `Turned` where the card's parts are lent.
 // `short_buffer` and `nothing_taken` are the calls that take no message; `after_message` restarts the time sum once one was served.
+#![tactic(auto)]
+
 ghost use Rattle.std.specs.Prelude.{◌≡◌};
 ghost use Rattle.turn.specs.Turn.{port_after};
 ghost use Rattle.turn.specs.Turned.{short_in, waiting_in};
