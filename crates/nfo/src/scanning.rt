@@ -29,7 +29,7 @@ pub enum Step {
 // that the BCC is made of. Bits that are no beginning are taken for one too, by their count and that byte; where they are more than
 // the shape has, the next byte drops them.
 pub fn scan(held: &mut [u8; 512], len: usize, bytes: &[u8]) -> Scanned
-    ensures { scan_in held.new result ≡ scan_from feeding (record { bytes = held.old; len = len }) 0 bytes.entry.now }
+    ensures { scan_in held.new result ≡ scan_from feeding (record { bytes = held.old; len = len }) 0 bytes.now }
 {
     let mut n = len;
     let mut i: usize = 0;
@@ -52,7 +52,7 @@ pub fn scan(held: &mut [u8; 512], len: usize, bytes: &[u8]) -> Scanned
 // a beginning of its own.
 fn feed(held: &mut [u8; 512], n: usize, bytes: &[u8], i: usize) -> Scanned
     requires { i < length bytes.now }
-    ensures { scan_in held.new result ≡ turned (record { bytes = held.old; len = n }) i (get_or bytes.entry.now i 0) }
+    ensures { scan_in held.new result ≡ turned (record { bytes = held.old; len = n }) i (get_or bytes.now i 0) }
 {
     let b = bytes[i];
     let s = next_step(held, n, b);

@@ -3,7 +3,6 @@ use mathlib.Core.Path.{◌≡◌, refl, ap, ◌∙◌}
 use mathlib.Core.List.{List, [], ◌∷◌, ◌++◌}
 use Prim.Native.Nat.{ℕ, ◌<◌, ◌≤◌}
 use lib.ListN.{length, take, drop, get_or}
-use lib.Seq.{take-length}
 use Rattle.base.specs.Buffers.{front, fitting}
 use Rattle.base.proofs.Sets.{fitting_all, fitting_none}
 use Rattle.checks.specs.Bcc.{bcc_of}
@@ -26,9 +25,9 @@ module _ (m buf : List ℕ) where
     pub all_count : (r : ℕ) → r ≡ length m → r ≡ length (fitting m (length buf))
     all_count r e = rw (fitting_all m (length buf) h) e
 
-    pub all_lent : (out : List ℕ) → out ≡ take (length m) m ++ drop (length m) buf → out ≡ front (fitting m (length buf)) buf
+    pub all_lent : (start : List ℕ) → start ≡ m → start ++ drop (length m) buf ≡ front (fitting m (length buf)) buf
     unfolding front
-    all_lent out e = rw (fitting_all m (length buf) h) (e ∙ rw take-length)
+    all_lent start e = rw (fitting_all m (length buf) h) (rw e)
 
 -- ---- REPLY
 -- the code's array, with the eight digits d and the BCC x

@@ -1,5 +1,7 @@
 // NFO serial: taking a message apart into ADR, parameter and value, and writing REPLY, ACK and NAK.
 // Which bytes are a message stands in `nfo`.
+#![tactic(auto)]
+
 mod message;
 mod replies;
 

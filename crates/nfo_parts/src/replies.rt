@@ -44,7 +44,8 @@ fn put(message: &[u8], out: &mut [u8]) -> usize
     if out.len() < message.len() {
         return 0;
     }
-    bytes::copy(message, out)
+    out[..message.len()].copy_from_slice(message);
+    message.len()
 }
 
 // The four hex digits of each, the high one first. Both are made in one call, which the compiler then puts in its place.

@@ -1,5 +1,7 @@
 // NFO serial on the card's port: `receive` reads a scrap, serves the first message taken and replies to it. The card's parts are lent where they lie;
 // its identity is none of them, for no message of NFO serial asks for it.
+#![tactic(auto)]
+
 ghost use Rattle.std.specs.Prelude.{◌≡◌, ◌≤◌, length};
 ghost use Rattle.base.specs.Buffers.{front, nfo_least};
 ghost use Rattle.identity.specs.Identity.{Identity};

@@ -1,6 +1,8 @@
 // A message of NFO serial, served by the plant: the order of refusals, what is done, and what is replied.
 //
 // `serve` does what a message asks, in the plant and the port that it is lent; `write_answer` puts the reply into a lent buffer.
+#![tactic(auto)]
+
 ghost use Rattle.std.specs.Prelude.{◌≡◌, eqb, length};
 ghost use Rattle.base.specs.Buffers.{front, fitting};
 ghost use Rattle.nfo_service.specs.Serve.{adr_of, to_us, reaches_us, row_named, stops, row_selected, select_served, enquiry_served, served};
@@ -15,7 +17,7 @@ use table::{ENumber, Found, Row};
 
 // Serves a message: an ENQUIRY tells a row, a SELECT writes one. A refusal changes nothing.
 pub fn serve(plant: &mut Plant, port: &mut Numbers, message: Message) -> Answer
-    ensures { record { plant = plant.exit.now; port = port.new; answer = result } ≡ served plant.entry.now port.old message }
+    ensures { record { plant = plant.new; port = port.new; answer = result } ≡ served plant.old port.old message }
 {
     match message {
         Message::Enquiry { adr, parameter } => enquire(plant, port, adr, parameter),
@@ -68,7 +70,7 @@ fn row_of(parameter: Parameter) -> Found
 }
 
 fn enquire(plant: &mut Plant, port: &mut Numbers, adr: u8, parameter: Parameter) -> Answer
-    ensures { record { plant = plant.exit.now; port = port.new; answer = result } ≡ enquiry_served plant.entry.now port.old adr parameter }
+    ensures { record { plant = plant.new; port = port.new; answer = result } ≡ enquiry_served plant.old port.old adr parameter }
 {
     if !to_us(plant, adr) {
         return Answer::NotOurs;
@@ -86,7 +88,7 @@ fn select(
     parameter: Parameter,
     value: Value,
 ) -> Answer
-    ensures { record { plant = plant.exit.now; port = port.new; answer = result } ≡ select_served plant.entry.now port.old adr parameter value }
+    ensures { record { plant = plant.new; port = port.new; answer = result } ≡ select_served plant.old port.old adr parameter value }
 {
     if !reaches_us(plant, adr) {
         return Answer::NotOurs;
@@ -99,7 +101,7 @@ fn select(
 
 // A SELECT of a row that there is.
 fn select_row(plant: &mut Plant, port: &mut Numbers, adr: u8, row: Row, value: Value) -> Answer
-    ensures { record { plant = plant.exit.now; port = port.new; answer = result } ≡ row_selected plant.entry.now port.old adr row value }
+    ensures { record { plant = plant.new; port = port.new; answer = result } ≡ row_selected plant.old port.old adr row value }
 {
     if permit::read_only(row) {
         return Answer::Refused(Refusal::ReadOnly);
