@@ -1,5 +1,7 @@
 // The message of Modbus ASCII: as a format of the left-to-right reading (`specs/Ascii`), and written.
 // `put_text` writes the message of some bytes, `put_ascii` the reply of an address and an answer.
+#![tactic(auto)]
+
 ghost use Rattle.std.specs.Prelude.{◌≡◌, ◌*◌, ◌≤◌, length};
 ghost use Rattle.std.proofs.lemmas.List.Edits.{sets};
 ghost use Rattle.base.specs.Buffers.{front, fitting, ascii_least};

@@ -1,4 +1,6 @@
 // Modbus ASCII on the card's port: `receive` reads a scrap, serves the first message taken and replies to it. The card's parts are lent where they lie.
+#![tactic(auto)]
+
 ghost use Rattle.std.specs.Prelude.{◌≡◌, ◌≤◌, length};
 ghost use Rattle.base.specs.Buffers.{front, ascii_least};
 ghost use Rattle.pending.specs.Scanning.{scan_in};

@@ -12,8 +12,8 @@ pub(crate) fn push_digits(held: &mut [u8; 512], n: usize, bytes: &[u8]) -> usize
     ensures within { result ≤ length bytes.now }
     ensures few { result ≤ 509 - n }
     ensures opened { ended (record { bytes = held.new; len = n + result }) ≡ false }
-    ensures same { scan_from feeding (record { bytes = held.new; len = n + result }) result (drop result bytes.entry.now)
-        ≡ scan_from feeding (record { bytes = held.old; len = n }) 0 bytes.entry.now }
+    ensures same { scan_from feeding (record { bytes = held.new; len = n + result }) result (drop result bytes.now)
+        ≡ scan_from feeding (record { bytes = held.old; len = n }) 0 bytes.now }
 {
     if 509 <= n {
         return 0;
@@ -29,8 +29,8 @@ fn push_run(held: &mut [u8; 512], n: usize, bytes: &[u8]) -> usize
     requires n_value { ended (record { bytes = held.old; len = n }) ≡ false }
     ensures within { result ≤ length bytes.now }
     ensures opened { ended (record { bytes = held.new; len = n + result }) ≡ false }
-    ensures same { scan_from feeding (record { bytes = held.new; len = n + result }) result (drop result bytes.entry.now)
-        ≡ scan_from feeding (record { bytes = held.old; len = n }) 0 bytes.entry.now }
+    ensures same { scan_from feeding (record { bytes = held.new; len = n + result }) result (drop result bytes.now)
+        ≡ scan_from feeding (record { bytes = held.old; len = n }) 0 bytes.now }
 {
     let mut i = push_numerals(held, n, bytes, 0);
     while i < bytes.len() {
@@ -52,8 +52,8 @@ fn push_numerals(held: &mut [u8; 512], n: usize, bytes: &[u8], from: usize) -> u
     ensures onward { from ≤ result }
     ensures within { result ≤ length bytes.now }
     ensures opened { ended (record { bytes = held.new; len = n + result }) ≡ false }
-    ensures same { scan_from feeding (record { bytes = held.new; len = n + result }) result (drop result bytes.entry.now)
-        ≡ scan_from feeding (record { bytes = held.old; len = n + from }) from (drop from bytes.entry.now) }
+    ensures same { scan_from feeding (record { bytes = held.new; len = n + result }) result (drop result bytes.now)
+        ≡ scan_from feeding (record { bytes = held.old; len = n + from }) from (drop from bytes.now) }
 {
     let mut i = from;
     while i < bytes.len() {

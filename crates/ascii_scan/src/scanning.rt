@@ -17,7 +17,7 @@ use pending::{Scanned, begin_with, push};
 // What is pending is taken for a beginning: of its bytes only the last is looked at again; at CR and from the 509th digit on, the digits are summed.
 // Bits that are no beginning are taken for one too, by their count and those bytes. The LF of a message is not held.
 pub fn scan(held: &mut [u8; 512], len: usize, bytes: &[u8]) -> Scanned
-    ensures { scan_in held.new result ≡ scan_from feeding (record { bytes = held.old; len = len }) 0 bytes.entry.now }
+    ensures { scan_in held.new result ≡ scan_from feeding (record { bytes = held.old; len = len }) 0 bytes.now }
 {
     let mut n = len;
     let mut i: usize = 0;
@@ -42,8 +42,8 @@ fn step(held: &mut [u8; 512], n: usize, bytes: &[u8], i: usize) -> Scanned
     requires { i < length bytes.now }
     ensures onward { i < result.used }
     ensures within { result.used ≤ length bytes.now }
-    ensures same { scan_on feeding (scan_in held.new result) (drop result.used bytes.entry.now)
-        ≡ scan_from feeding (record { bytes = held.old; len = n }) i (drop i bytes.entry.now) }
+    ensures same { scan_on feeding (scan_in held.new result) (drop result.used bytes.now)
+        ≡ scan_from feeding (record { bytes = held.old; len = n }) i (drop i bytes.now) }
 {
     if n == 0 {
         return Scanned {
@@ -76,8 +76,8 @@ fn go_on(held: &mut [u8; 512], n: usize, bytes: &[u8], i: usize) -> Scanned
     requires i_in_bounds { i < length bytes.now }
     ensures onward { i < result.used }
     ensures within { result.used ≤ length bytes.now }
-    ensures same { scan_on feeding (scan_in held.new result) (drop result.used bytes.entry.now)
-        ≡ scan_from feeding (record { bytes = held.old; len = n }) i (drop i bytes.entry.now) }
+    ensures same { scan_on feeding (scan_in held.new result) (drop result.used bytes.now)
+        ≡ scan_from feeding (record { bytes = held.old; len = n }) i (drop i bytes.now) }
 {
     let run = push_digits(held, n, &bytes[i..]);
     let at = i + run;

@@ -1,12 +1,9 @@
 -- What the code's tests and calls show of requests. Assumes nothing.
 use mathlib.Core.Path.{◌≡◌, refl, sym, ap, subst, ◌∙◌}
-use mathlib.Core.Logic.{inl, inr}
 use mathlib.Core.Bool.{Bool, true, false, not}
-use mathlib.Core.List.{List, [], ◌∷◌}
+use mathlib.Core.List.{List}
 use Prim.Native.Nat.{ℕ, ◌+◌, ◌*◌, ◌≤◌, ◌<◌}
 use native.Mathlib.Omega.{arith}
-use types.Run.{OneOf}
-use denote.Enum.Declared.{tag_of}
 use lib.ListN.{length, get_or}
 use borrow.Author.Tests.{lt-leb, le-leb, eq-eqb, ne_eqb, eqb-false}
 use lib.Dec.{eqb, leb}
@@ -16,7 +13,6 @@ use Rattle.modbus_words.specs.Words.{word_at}
 use Rattle.modbus.specs.Request.{label, span, reads, writes, asked, asked_of, identifying, numbering, request_of}
 use Rattle.modbus.specs.declared.requests.Request.{Request}
 use Rattle.modbus.specs.declared.requests.Request.TheVariants.{Read, One, Many, Identify, Serial, Malformed, Unknown}
-use Rattle.modbus.specs.contracts.requests.Request.{the_type}
 
 -- ---- requests, by the function and what was read of the unit
 read_known : (f : ℕ) → 3 ≤ f → f < 5 → either (eqb f 3) (eqb f 4) ≡ true
@@ -153,17 +149,9 @@ module _ (u : List ℕ) where
   pub request_few : (f : ℕ) (r : Request) → f ≡ get_or u 0 0 → length u < 5 → r ≡ asked (length u) f 0 0 0 → r ≡ asked_of u
   request_few f r p h e = request_read f (word_at u 1) (word_at u 3) (get_or u 5 0) r p refl refl refl (e ∙ asked_few (length u) f (word_at u 1) (word_at u 3) (get_or u 5 0) h)
 
--- ---- a request that is not unknown, by its tag
+-- ---- a request that is not unknown
 abbrev pub NotUnknown : Request → Type 0
-NotUnknown r = OneOf (0 ∷ 1 ∷ 2 ∷ 3 ∷ 4 ∷ 5 ∷ []) (tag_of the_type r)
-
-never_unknown : (g : ℕ) → NotUnknown (Unknown g) → ⊥
-never_unknown g (inl e) = omega (arith, e)
-never_unknown g (inr (inl e)) = omega (arith, e)
-never_unknown g (inr (inr (inl e))) = omega (arith, e)
-never_unknown g (inr (inr (inr (inl e)))) = omega (arith, e)
-never_unknown g (inr (inr (inr (inr (inl e))))) = omega (arith, e)
-never_unknown g (inr (inr (inr (inr (inr e))))) = omega (arith, e)
+NotUnknown r = (f : ℕ) → r ≡ Unknown f → ⊥
 
 -- a request that is unknown to them names its function
 Names : ℕ → Request → Type 0
@@ -187,7 +175,7 @@ module _ (u : List ℕ) (r : Request) (four : r ≡ asked_of u) where
   request_known k = rw (ne_eqb (get_or u 0 0) 43 (other 43 (omega arith)), ne_eqb (get_or u 0 0) 17 (other 17 (omega arith))) four
     where
       other : (f : ℕ) → 17 ≤ f → get_or u 0 0 ≡ f → ⊥
-      other f h e = never_unknown f (subst NotUnknown (above f e h) k)
+      other f h e = k f (above f e h)
 
   -- they do not know the function f: it is 43; 17; or another
   module _ (f : ℕ) (is : r ≡ Unknown f) where

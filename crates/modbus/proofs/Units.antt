@@ -1,9 +1,6 @@
 -- What the writer of data units stores: each answer's unit, from the bytes that the code put together. Assumes nothing.
 use mathlib.Core.Path.{◌≡◌, refl, sym, ap, ◌∙◌}
-use mathlib.Core.List.{List, [], ◌∷◌}
-use mathlib.Core.Logic.{inl, inr}
-use types.Run.{OneOf}
-use denote.Enum.Declared.{tag_of}
+use mathlib.Core.List.{List, ◌∷◌}
 use Prim.Native.Nat.{ℕ, suc, ◌+◌, ◌-◌, ◌≤◌, ◌<◌}
 use native.Mathlib.Omega.{arith}
 use mir.Syntax.{w64}
@@ -23,21 +20,17 @@ use Rattle.modbus.specs.Answer.{short_of, unit_of}
 use Rattle.modbus.specs.declared.replies.Answer.{Answer}
 use Rattle.modbus.specs.declared.replies.Answer.TheVariants.{Word, Long, Echo, Identity, Exception}
 use Rattle.modbus.proofs.Objects.{objects_count, told_short, told_below}
-use Rattle.modbus.specs.contracts.replies.Answer.{the_type}
 
--- an answer that is no part of the identity, by its tag, has its short unit
+-- an answer that is no part of the identity has its short unit
 abbrev pub Short : Answer → Type 0
-Short answer = OneOf (0 ∷ 1 ∷ 2 ∷ 4 ∷ []) (tag_of the_type answer)
+Short answer = (part : Part) → answer ≡ Identity part → ⊥
 
 short_unit : (i : Identities.Identity) (answer : Answer) → Short answer → short_of answer ≡ unit_of i answer
 unfolding unit_of
 short_unit i (Word f w) t = refl
 short_unit i (Long f v) t = refl
 short_unit i (Echo f r n) t = refl
-short_unit i (Identity part) (inl e) = absurd (omega (arith, e))
-short_unit i (Identity part) (inr (inl e)) = absurd (omega (arith, e))
-short_unit i (Identity part) (inr (inr (inl e))) = absurd (omega (arith, e))
-short_unit i (Identity part) (inr (inr (inr e))) = absurd (omega (arith, e))
+short_unit i (Identity part) t = absurd (t part refl)
 short_unit i (Exception f c) t = refl
 
 -- ---- how long a unit is

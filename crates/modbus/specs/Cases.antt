@@ -82,5 +82,5 @@ replies =
     ∷ []
 
 pub replies_hold : map (λ (c : List ℕ × List ℕ). c.0) replies ≡ map (λ (c : List ℕ × List ℕ). c.1) replies
-unfolding unit_of short_of Identities.part_unit Identities.objects_unit Identities.listed Identities.chosen Identities.up_to_lem Identities.objects_asked Identities.revision Identities.model Identities.serial
+unfolding unit_of short_of Identities.part_unit Identities.objects_unit Identities.listed Identities.chosen Identities.up_to Identities.objects_asked Identities.revision Identities.model Identities.serial
 replies_hold = refl

@@ -1,5 +1,7 @@
 // The data unit of Modbus, which RTU and ASCII share: `request_of` takes a request's apart, `asked_of` one of the four functions alone.
 // `put_unit` writes an answer's, and `put_body` the address with it.
+#![tactic(auto)]
+
 mod copies;
 mod identified;
 mod replies;

@@ -13,7 +13,7 @@ use Rattle.base.proofs.Tests.{both_out, pick_both}
 use Rattle.table.specs.Table.{line_at}
 use Rattle.table.specs.declared.labels.Row.{Row}
 use Rattle.table.specs.declared.labels.Register.{Register}
-use Rattle.identity.specs.Identity.{up_to_lem, objects_asked}
+use Rattle.identity.specs.Identity.{up_to, objects_asked}
 use Rattle.identity.specs.declared.Part.{Part}
 use Rattle.identity.specs.declared.Part.TheVariants.{Objects}
 use Rattle.identity.specs.declared.Named.{Named}
@@ -138,7 +138,7 @@ abbrev PartIn : Named → Type 0
 PartIn named = AnswerIn (Identified (the_part named))
 
 part_in : (code object : ℕ) → code < 256 → PartIn (objects_asked code object)
-unfolding objects_asked up_to_lem
+unfolding objects_asked up_to
 part_in code object h =
     pick_both PartIn (eqb code 1) (λ _. up_to_lem 0x02)
     (λ _. pick_both PartIn (eqb code 2) (λ _. up_to_lem 0x06) (λ _. pick_both PartIn (ltb 0x06 object) (λ _. tt) (λ _. h)))

@@ -4,7 +4,7 @@ use Rattle.table.specs.Table.{rows, line_at, start_words}
 use Rattle.table.specs.Address.{address, first_register}
 use Rattle.table.specs.Find.{first_row, row_of_span}
 use Rattle.allowed.specs.Allowed.{twos, within, allows, allowed_at}
-use Rattle.identity.specs.Identity.{up_to_lem, objects_asked}
+use Rattle.identity.specs.Identity.{up_to, objects_asked}
 use Rattle.identity.specs.declared.Part.TheVariants.{Objects, Serial}
 use Rattle.drive.specs.Plant.{Plant, flags, started}
 use Rattle.drive.specs.Flags.{flagged, lowest_from, lowest_of}
@@ -98,5 +98,5 @@ cases =
     ∷ []
 
 pub cases_hold : map (λ (c : (Plant × ℕ × List ℕ) × Result). result (exchanged c.0.0 (0 ∷ 0 ∷ 0 ∷ []) c.0.1 c.0.2)) cases ≡ map (λ (c : (Plant × ℕ × List ℕ) × Result). c.1) cases
-unfolding rows line_at start_words address first_register first_row row_of_span twos within allows allowed_at started flagged lowest_from lowest_of active flag_stands runs status_of ready status_word righted reflagged halted flag_raised acknowledged is_fault raised ended Reading.stored Reading.told read_only bounds_of allowed init_running permitted permit_of followed applied written told_served wrote_served word_at long_at reads writes asked identifying numbering asked_of request_of up_to_lem objects_asked reaches_us task_of done served registers_told replied_by replied exchanged
+unfolding rows line_at start_words address first_register first_row row_of_span twos within allows allowed_at started flagged lowest_from lowest_of active flag_stands runs status_of ready status_word righted reflagged halted flag_raised acknowledged is_fault raised ended Reading.stored Reading.told read_only bounds_of allowed init_running permitted permit_of followed applied written told_served wrote_served word_at long_at reads writes asked identifying numbering asked_of request_of up_to objects_asked reaches_us task_of done served registers_told replied_by replied exchanged
 cases_hold = refl

@@ -1,6 +1,8 @@
 // A data unit of Modbus, served by the plant, for RTU and ASCII alike: the order of refusals, what is done, and what is replied.
 //
 // `serve` takes a unit and the address before it, and is lent the plant and the port; the reply that it hands back is for the writer of the frame or of the message.
+#![tactic(auto)]
+
 ghost use Rattle.std.specs.Prelude.{◌≡◌};
 ghost use Rattle.base.specs.Choice.{both};
 ghost use Rattle.modbus_service.specs.Serve.{to_all, reaches_us, reading, part_task, task_of, done};
@@ -149,7 +151,7 @@ fn broadcast_read(address: u8, function: u8) -> bool
 
 // The row is told or written, with refusals 3 to 7; or nothing changes, and this is said.
 fn do_task(plant: &mut Plant, port: &mut Numbers, task: Task) -> Answer
-    ensures { record { plant = plant.exit.now; port = port.new; answer = result } ≡ done plant.entry.now port.old task }
+    ensures { record { plant = plant.new; port = port.new; answer = result } ≡ done plant.old port.old task }
 {
     match task {
         Task::Tell(row) => Answer::Told(row, reading::read(plant, port, row)),

@@ -1,5 +1,7 @@
 // Bytes from the line, by the port's protocol: `receive` is the call that every line makes of the card. `receive_in` is the same call of a card whose parts are
 // lent where they lie.
+#![tactic(auto)]
+
 ghost use Rattle.std.specs.Prelude.{◌≡◌, length};
 ghost use Rattle.base.specs.Buffers.{front};
 ghost use Rattle.card.specs.State.{card_of};

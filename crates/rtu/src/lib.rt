@@ -1,6 +1,8 @@
 // The RTU frame of Modbus: address, data unit, CRC.
 // `frame_holds`, `address_in` and `unit_in` read a request's frame, `register_data` hands out a part of it, `register_span` says where that lies, and
 // `put_rtu` writes a reply's.
+#![tactic(auto)]
+
 ghost use Rattle.std.specs.Prelude.{◌≡◌, ◌+◌, ◌≤◌, length, take};
 ghost use Rattle.std.proofs.lemmas.List.Edits.{sets};
 ghost use Rattle.base.specs.Buffers.{front, rtu_least};

@@ -1,4 +1,6 @@
 // Modbus RTU on the card's port: `receive` takes one frame a call, serves its data unit and replies to it. The card's parts are lent where they lie.
+#![tactic(auto)]
+
 ghost use Rattle.std.specs.Prelude.{◌≡◌, ◌≤◌, length};
 ghost use Rattle.base.specs.Buffers.{front, rtu_least};
 ghost use Rattle.turn.specs.Turn.{turn_of};
