@@ -8,7 +8,6 @@ use native.Mathlib.Omega.{arith}
 use borrow.Author.Tests.{lt-ltb, le-ltb, ltb-true, ltb-false}
 use lib.Dec.{ltb}
 use lib.ListN.{length, take, drop}
-use lib.Seq.{take-length}
 use Rattle.base.specs.Choice.{pick}
 use Rattle.base.specs.Buffers.{front}
 use Rattle.base.proofs.Sets.{fitting_all, fitting_none, front_none, take_front}
@@ -64,10 +63,10 @@ module _ (s : Bool) (m buf : List ℕ) where
     pub said_lent : (n : ℕ) (out : List ℕ) → out ≡ front (bytes_sent true m n) buf → out ≡ front (bytes_sent s m n) buf
     said_lent n out e = e ∙ ap (λ (t : Bool). front (bytes_sent t m n) buf) (sym h)
 
--- what `bytes::copy` leaves is the message in front
-pub copied_front : (m buf out : List ℕ) → out ≡ take (length m) m ++ drop (length m) buf → out ≡ front m buf
+-- what the copy leaves is the message in front
+pub copied_front : (m buf start : List ℕ) → start ≡ m → start ++ drop (length m) buf ≡ front m buf
 unfolding front
-copied_front m buf out e = e ∙ rw take-length
+copied_front m buf start e = rw e
 
 -- ---- what was told says which case it was: 13 where the request cannot be said, 10 where it can and its message does not fit, else 0
 module _ (s : Bool) (m : List ℕ) (n : ℕ) where

@@ -1,5 +1,7 @@
 // The master side of the line: what every writer of a request comes to, and putting a made message into the caller's buffer.
 // What is sent, and in which order it is refused, stands in specs/, once for all protocols.
+#![tactic(auto)]
+
 ghost use Rattle.std.specs.Prelude.{◌≡◌, true, length};
 ghost use Rattle.base.specs.Buffers.{front};
 ghost use Rattle.master.specs.Sent.{sent_number, sent_of, bytes_sent};
@@ -36,5 +38,6 @@ pub fn send(message: &[u8], out: &mut [u8]) -> Sent
     if out.len() < message.len() {
         return Sent::ShortBuffer;
     }
-    Sent::Written(bytes::copy(message, out))
+    out[..message.len()].copy_from_slice(message);
+    Sent::Written(message.len())
 }

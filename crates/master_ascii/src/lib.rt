@@ -1,4 +1,6 @@
 // The master's end of a Modbus ASCII line: `write_request` puts the message of what is asked, `read_reply` tells what a message answers.
+#![tactic(auto)]
+
 ghost use Rattle.std.specs.Prelude.{◌≡◌, [], length};
 ghost use Rattle.base.specs.Buffers.{front};
 ghost use Rattle.ascii.specs.Ascii.{ascii_of};

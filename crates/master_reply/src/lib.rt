@@ -1,5 +1,7 @@
 // The replies that a Modbus master reads: `read_unit` tells what an address and a data unit are, with the register words of a read beside it.
 // RTU and ASCII test what stands around these.
+#![tactic(auto)]
+
 ghost use Rattle.std.specs.Prelude.{◌≡◌, ◌≤◌, replicate};
 ghost use Rattle.base.specs.Buffers.{front};
 ghost use Rattle.master_reply.specs.Reply.{reply_number, read_count, tells_data, tells_one, tells_many, tells_exception, unit_tells, reply_of, registers_of, words_from, heard_of};

@@ -1,5 +1,7 @@
 // The requests of a Modbus master: what can be asked, and `body_of`, which makes the address and the data unit of it. RTU and ASCII put their checks around
 // these.
+#![tactic(auto)]
+
 ghost use Rattle.std.specs.Prelude.{◌≡◌, ◌∷◌, ◌≤◌, length};
 ghost use Rattle.master_request.specs.Ask.{read_sayable, many_sayable, sayable, head_of, many_unit, body_with, body_said};
 
@@ -83,7 +85,8 @@ fn short_body(address: u8, function: u8, register: Register, number: u16) -> Bod
         (number % 256) as u8,
     ];
     let mut bytes = [0u8; 256];
-    let size = bytes::copy(&head, &mut bytes);
+    let size = head.len();
+    bytes[..size].copy_from_slice(&head);
     Body { bytes, size }
 }
 
@@ -105,8 +108,8 @@ fn long_body(address: u8, first: Register, registers: &[u8]) -> Body
         n as u8,
     ];
     let mut bytes = [0u8; 256];
-    bytes::copy(&head, &mut bytes);
-    bytes::copy(registers, &mut bytes[7..]);
+    bytes[..7].copy_from_slice(&head);
+    bytes[7..n + 7].copy_from_slice(registers);
     Body { bytes, size: n + 7 }
 }
 

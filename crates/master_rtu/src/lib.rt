@@ -1,4 +1,6 @@
 // The master's end of a Modbus RTU line: `write_request` puts the frame of what is asked, `read_reply` tells what a frame answers.
+#![tactic(auto)]
+
 ghost use Rattle.std.specs.Prelude.{◌≡◌, length};
 ghost use Rattle.base.specs.Buffers.{front};
 ghost use Rattle.rtu.specs.Rtu.{rtu_of};
