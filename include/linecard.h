@@ -1,4 +1,4 @@
-/* The line card for firmware in C: liblinecard.a, which `rt staticlib linecard` writes, for x86-64. See docs/FIRMWARE.md.
+/* The line card for firmware in C: target/staticlib/liblinecard.a, which ./library writes, for x86-64. See docs/FIRMWARE.md.
  *
  * The host owns the card's memory; a card is plain data, and any bytes are a card. What the host sees to: no pointer is NULL, not even for 0 bytes;
  * each points to as much memory as it says, aligned for its type; no two of one call overlap; no other thread touches them while a call runs.

@@ -28,8 +28,7 @@ fn tell(turn: Turned, len: &mut usize, told: &mut [usize; 2]) -> u32
 
 // Reads bytes as NFO serial, whatever the port's protocol is, serves the first message taken, and puts its reply at the start of `reply`. `told` gets the
 // bytes used and the reply's length.
-#[unsafe(no_mangle)]
-pub extern "C" fn card_receive_nfo_in(
+pub fn card_receive_nfo_in(
     held: &mut [u8; 512],
     len: &mut usize,
     port: &mut Numbers,
@@ -46,8 +45,7 @@ pub extern "C" fn card_receive_nfo_in(
 }
 
 // The same of Modbus ASCII.
-#[unsafe(no_mangle)]
-pub extern "C" fn card_receive_ascii_in(
+pub fn card_receive_ascii_in(
     held: &mut [u8; 512],
     len: &mut usize,
     port: &mut Numbers,
@@ -65,8 +63,7 @@ pub extern "C" fn card_receive_ascii_in(
 }
 
 // The same of Modbus RTU, where the bytes are one frame.
-#[unsafe(no_mangle)]
-pub extern "C" fn card_receive_rtu_in(
+pub fn card_receive_rtu_in(
     held: &mut [u8; 512],
     len: &mut usize,
     port: &mut Numbers,
@@ -84,8 +81,7 @@ pub extern "C" fn card_receive_rtu_in(
 }
 
 // The same by the port's protocol.
-#[unsafe(no_mangle)]
-pub extern "C" fn card_receive_in(
+pub fn card_receive_in(
     held: &mut [u8; 512],
     len: &mut usize,
     port: &mut Numbers,
@@ -108,8 +104,7 @@ pub extern "C" fn card_receive_in(
 }
 
 // Where the register data of a well-made 06 or 16 lies in its RTU frame: `place` gets its first place and its length; for other bytes 0 and 0.
-#[unsafe(no_mangle)]
-pub extern "C" fn card_register_data(frame: &[u8], place: &mut [usize; 2])
+pub fn card_register_data(frame: &[u8], place: &mut [usize; 2])
     ensures at { place.new ≡ place_of frame.now }
     ensures part { take (get_or place.new 1 0) (drop (get_or place.new 0 0) frame.now) ≡ register_data frame.now }
 {

@@ -24,8 +24,7 @@ fn protocol_of(n: u32) -> Protocol
 }
 
 // A fresh card with the identity that is given: 1 is Modbus RTU, 2 Modbus ASCII, any other number NFO serial. What was in the memory before does not count.
-#[unsafe(no_mangle)]
-pub extern "C" fn card_start_in(
+pub fn card_start_in(
     held: &mut [u8; 512],
     len: &mut usize,
     port: &mut Numbers,
@@ -44,8 +43,7 @@ pub extern "C" fn card_start_in(
 }
 
 // The card restarts, and a SiAdr of 0 or 95 becomes 1. The array of the bytes pending stays as it is; there are none in it then.
-#[unsafe(no_mangle)]
-pub extern "C" fn card_restart_in(len: &mut usize, port: &mut Numbers, plant: &mut Plant)
+pub fn card_restart_in(len: &mut usize, port: &mut Numbers, plant: &mut Plant)
     ensures { Restarts len.old port.old plant.old len.new port.new plant.new }
 {
     *len = 0;
@@ -55,8 +53,7 @@ pub extern "C" fn card_restart_in(len: &mut usize, port: &mut Numbers, plant: &m
 }
 
 // The host raises fault n: 1 to 13 or 16 to 23, else 12.
-#[unsafe(no_mangle)]
-pub extern "C" fn card_raise_fault_in(plant: &mut Plant, n: u32) -> u32
+pub fn card_raise_fault_in(plant: &mut Plant, n: u32) -> u32
     ensures { OnPlant (fault_raised n) plant.old plant.new result }
 {
     let known = drive::raise_fault(plant, n);
@@ -65,8 +62,7 @@ pub extern "C" fn card_raise_fault_in(plant: &mut Plant, n: u32) -> u32
 }
 
 // The host ends the cause of fault n: 1 to 13 or 16 to 23, else 12.
-#[unsafe(no_mangle)]
-pub extern "C" fn card_end_cause_in(plant: &mut Plant, n: u32) -> u32
+pub fn card_end_cause_in(plant: &mut Plant, n: u32) -> u32
     ensures { OnPlant (cause_ended n) plant.old plant.new result }
 {
     let known = drive::end_cause(plant, n);
@@ -75,8 +71,7 @@ pub extern "C" fn card_end_cause_in(plant: &mut Plant, n: u32) -> u32
 }
 
 // DIN1 becomes inactive, by 0, or active, by any other number.
-#[unsafe(no_mangle)]
-pub extern "C" fn card_din1_in(plant: &mut Plant, active: u32) -> u32
+pub fn card_din1_in(plant: &mut Plant, active: u32) -> u32
     ensures { OnPlant (din1_set (active_of active)) plant.old plant.new result }
 {
     drive::set_din1(plant, active != 0);
@@ -84,8 +79,7 @@ pub extern "C" fn card_din1_in(plant: &mut Plant, active: u32) -> u32
 }
 
 // FrqAct is measured: the low 16 bits of the word.
-#[unsafe(no_mangle)]
-pub extern "C" fn card_frq_act_in(plant: &mut Plant, word: u32) -> u32
+pub fn card_frq_act_in(plant: &mut Plant, word: u32) -> u32
     ensures { OnPlant (measured_set (Frq (word % 65536))) plant.old plant.new result }
 {
     drive::measure(plant, Measured::Frq((word % 65536) as u16));
@@ -93,8 +87,7 @@ pub extern "C" fn card_frq_act_in(plant: &mut Plant, word: u32) -> u32
 }
 
 // I-rms is measured.
-#[unsafe(no_mangle)]
-pub extern "C" fn card_i_rms_in(plant: &mut Plant, word: u32) -> u32
+pub fn card_i_rms_in(plant: &mut Plant, word: u32) -> u32
     ensures { OnPlant (measured_set (Rms word)) plant.old plant.new result }
 {
     drive::measure(plant, Measured::Rms(word));
@@ -102,8 +95,7 @@ pub extern "C" fn card_i_rms_in(plant: &mut Plant, word: u32) -> u32
 }
 
 // OpTime is measured.
-#[unsafe(no_mangle)]
-pub extern "C" fn card_op_time_in(plant: &mut Plant, word: u32) -> u32
+pub fn card_op_time_in(plant: &mut Plant, word: u32) -> u32
     ensures { OnPlant (measured_set (Optime word)) plant.old plant.new result }
 {
     drive::measure(plant, Measured::Optime(word));
@@ -111,8 +103,7 @@ pub extern "C" fn card_op_time_in(plant: &mut Plant, word: u32) -> u32
 }
 
 // The host tells a parity fault of the port.
-#[unsafe(no_mangle)]
-pub extern "C" fn card_parity_fault_in(port: &mut Numbers, plant: &mut Plant) -> u32
+pub fn card_parity_fault_in(port: &mut Numbers, plant: &mut Plant) -> u32
     ensures { OnPort parity_told port.old plant.old port.new plant.new result }
 {
     card::parity_fault_in(port, plant);
@@ -120,8 +111,7 @@ pub extern "C" fn card_parity_fault_in(port: &mut Numbers, plant: &mut Plant) ->
 }
 
 // So many tenths pass: 1 to 250, else 12.
-#[unsafe(no_mangle)]
-pub extern "C" fn card_tick_in(port: &mut Numbers, plant: &mut Plant, tenths: u32) -> u32
+pub fn card_tick_in(port: &mut Numbers, plant: &mut Plant, tenths: u32) -> u32
     ensures { OnPort (ticked tenths) port.old plant.old port.new plant.new result }
 {
     let outcome = card::tick_in(port, plant, tenths);
