@@ -1,31 +1,33 @@
-// Each command is done on the card of the bench or by its master, and its answer printed.
+// Each command is done on the card of the bench or by its master, and its answer printed to `to`.
 use crate::command::{Command, Event};
 use crate::{command, state};
 use card::{After, Card, Protocol};
 use drive::Measured;
 use identity::{BLANK, Identity, LENGTH};
+use std::io;
+use std::io::Write;
 
 // The answer to what is no command.
-pub(crate) fn unknown() {
+pub(crate) fn unknown<W: Write>(to: &mut W) -> io::Result<()> {
     let mut out = [0u8; 2];
     let n = bench_lines::put(&mut out, 0, b'?');
-    bench_lines::end(&mut out, n);
+    bench_lines::end(to, &mut out, n)
 }
 
 // `OUTCOME`
-fn outcome(number: u32) {
+fn outcome<W: Write>(to: &mut W, number: u32) -> io::Result<()> {
     let mut out = [0u8; 2048];
     let n = bench_lines::unsigned(&mut out, 0, number as u64);
-    bench_lines::end(&mut out, n);
+    bench_lines::end(to, &mut out, n)
 }
 
 // `OUTCOME REPLY`
-fn reply_line(number: u32, reply: &[u8]) {
+fn reply_line<W: Write>(to: &mut W, number: u32, reply: &[u8]) -> io::Result<()> {
     let mut out = [0u8; 2048];
     let n = bench_lines::unsigned(&mut out, 0, number as u64);
     let m = bench_lines::put(&mut out, n, b' ');
     let l = bench_lines::bytes(&mut out, m, reply);
-    bench_lines::end(&mut out, l);
+    bench_lines::end(to, &mut out, l)
 }
 
 #[derive(Clone, Copy)]
@@ -35,85 +37,90 @@ struct Given {
 }
 
 // One call of `bytes HEX`, with its answer where a message was taken.
-fn give(card: Card, scrap: &[u8]) -> Given {
+fn give<W: Write>(to: &mut W, card: Card, scrap: &[u8]) -> io::Result<Given> {
     let mut buffer = [0u8; 600];
     let turn = receive::receive(card, scrap, &mut buffer);
     let result = turn.outcome;
     let number = result.number();
     if number != 15 {
-        reply_line(number, bench_words::first(&buffer, turn.len));
+        reply_line(to, number, bench_words::first(&buffer, turn.len))?;
     }
     let next = turn.card;
-    Given {
+    Ok(Given {
         card: next,
         used: turn.used,
-    }
+    })
 }
 
 // `bytes HEX`: a call with the whole scrap, then with the unused rest, until no byte is left. One that used no byte would be the last.
-fn bytes(card: Card, scrap: &[u8]) -> Card {
+fn bytes<W: Write>(to: &mut W, card: Card, scrap: &[u8]) -> io::Result<Card> {
     let mut next = card;
     let mut at: usize = 0;
     while at <= scrap.len() {
-        let given = give(next, &scrap[at..]);
+        let given = give(to, next, &scrap[at..])?;
         let used = given.used;
         let after = given.card;
         next = after;
         if scrap.len() - at <= used {
-            return next;
+            return Ok(next);
         }
         if used == 0 {
-            return next;
+            return Ok(next);
         }
         at += used;
     }
-    next
+    Ok(next)
 }
 
 // `OUTCOME USED LEN BUFFER`
-fn call_line(number: u32, used: usize, len: usize, buffer: &[u8]) {
+fn call_line<W: Write>(
+    to: &mut W,
+    number: u32,
+    used: usize,
+    len: usize,
+    buffer: &[u8],
+) -> io::Result<()> {
     let mut out = [0u8; 2048];
     let mut n = bench_lines::unsigned(&mut out, 0, number as u64);
     n = bench_lines::spaced(&mut out, n, used as u64);
     n = bench_lines::spaced(&mut out, n, len as u64);
     n = bench_lines::put(&mut out, n, b' ');
     n = bench_lines::bytes(&mut out, n, buffer);
-    bench_lines::end(&mut out, n);
+    bench_lines::end(to, &mut out, n)
 }
 
 // One call with a buffer of the size asked.
-fn called(card: Card, scrap: &[u8], buffer: &mut [u8]) -> Card {
+fn called<W: Write>(to: &mut W, card: Card, scrap: &[u8], buffer: &mut [u8]) -> io::Result<Card> {
     let turn = receive::receive(card, scrap, buffer);
     let result = turn.outcome;
-    call_line(result.number(), turn.used, turn.len, buffer);
+    call_line(to, result.number(), turn.used, turn.len, buffer)?;
     let next = turn.card;
-    next
+    Ok(next)
 }
 
 // `call B HEX`. B is 0 to 600; the line is no command where it is more.
-fn call(card: Card, size: usize, scrap: &[u8]) -> Card {
+fn call<W: Write>(to: &mut W, card: Card, size: usize, scrap: &[u8]) -> io::Result<Card> {
     let mut buffer = [0xA5u8; 600];
     if size <= 600 {
-        return called(card, scrap, &mut buffer[0..size]);
+        return called(to, card, scrap, &mut buffer[0..size]);
     }
-    unknown();
-    card
+    unknown(to)?;
+    Ok(card)
 }
 
 // `regdata HEX`: `OFFSET HEX`, or `-`. Behind the register data of a frame there is its CRC alone.
-fn register_data(frame: &[u8]) {
+fn register_data<W: Write>(to: &mut W, frame: &[u8]) -> io::Result<()> {
     let mut out = [0u8; 2048];
     let data = rtu::register_data(frame);
     let behind = data.len() + 2;
     if data.len() == 0 || frame.len() < behind {
         let n = bench_lines::put(&mut out, 0, b'-');
-        bench_lines::end(&mut out, n);
-        return;
+        return bench_lines::end(to, &mut out, n);
     }
     let mut n = bench_lines::unsigned(&mut out, 0, (frame.len() - behind) as u64);
     n = bench_lines::put(&mut out, n, b' ');
     n = bench_lines::bytes(&mut out, n, data);
-    bench_lines::end(&mut out, n);
+    bench_lines::end(to, &mut out, n)
 }
 
 // What the host tells the card.
@@ -131,20 +138,20 @@ fn tell(card: Card, event: Event) -> After {
 }
 
 // `tick N` and the other events: the outcome alone
-fn host(card: Card, event: Event) -> Card {
+fn host<W: Write>(to: &mut W, card: Card, event: Event) -> io::Result<Card> {
     let after = tell(card, event);
     let result = after.outcome;
-    outcome(result.number());
+    outcome(to, result.number())?;
     let next = after.card;
-    next
+    Ok(next)
 }
 
 // `nreply HEX`, `mreply P HEX`: a master reads the reply.
-fn hear(protocol: Protocol, reply: &[u8]) {
+fn hear<W: Write>(to: &mut W, protocol: Protocol, reply: &[u8]) -> io::Result<()> {
     match protocol {
-        Protocol::Nfo => bench_master::hear_nfo(reply),
-        Protocol::Rtu => bench_master::hear_rtu(reply),
-        Protocol::Ascii => bench_master::hear_ascii(reply),
+        Protocol::Nfo => bench_master::hear_nfo(to, reply),
+        Protocol::Rtu => bench_master::hear_rtu(to, reply),
+        Protocol::Ascii => bench_master::hear_ascii(to, reply),
     }
 }
 
@@ -152,44 +159,44 @@ fn hear(protocol: Protocol, reply: &[u8]) {
 fn identity_in(spelt: &[u8]) -> Identity {
     let mut identity = BLANK;
     if LENGTH <= spelt.len() {
-        bytes::copy(&spelt[0..LENGTH], &mut identity);
+        identity.copy_from_slice(&spelt[0..LENGTH]);
     }
     identity
 }
 
 // Does a command, whose bytes stand at the start of `buffer`.
-fn perform(card: Card, command: Command, buffer: &[u8]) -> Card {
+fn perform<W: Write>(to: &mut W, card: Card, command: Command, buffer: &[u8]) -> io::Result<Card> {
     match command {
         Command::Start(protocol) => {
-            outcome(0);
-            Card::start(protocol, BLANK)
+            outcome(to, 0)?;
+            Ok(Card::start(protocol, BLANK))
         }
         Command::StartAs(protocol) => {
-            outcome(0);
-            Card::start(protocol, identity_in(buffer))
+            outcome(to, 0)?;
+            Ok(Card::start(protocol, identity_in(buffer)))
         }
         Command::Restart => {
-            outcome(0);
-            card.restart()
+            outcome(to, 0)?;
+            Ok(card.restart())
         }
-        Command::Bytes(n) => bytes(card, bench_words::first(buffer, n)),
-        Command::Call(size, n) => call(card, size, bench_words::first(buffer, n)),
-        Command::Host(event) => host(card, event),
+        Command::Bytes(n) => bytes(to, card, bench_words::first(buffer, n)),
+        Command::Call(size, n) => call(to, card, size, bench_words::first(buffer, n)),
+        Command::Host(event) => host(to, card, event),
         Command::State => {
-            state::print(card);
-            card
+            state::print(to, card)?;
+            Ok(card)
         }
         Command::RegisterData(n) => {
-            register_data(bench_words::first(buffer, n));
-            card
+            register_data(to, bench_words::first(buffer, n))?;
+            Ok(card)
         }
         Command::Hear(protocol, n) => {
-            hear(protocol, bench_words::first(buffer, n));
-            card
+            hear(to, protocol, bench_words::first(buffer, n))?;
+            Ok(card)
         }
         Command::NotACommand => {
-            unknown();
-            card
+            unknown(to)?;
+            Ok(card)
         }
     }
 }
@@ -203,12 +210,12 @@ fn asks_master(line: &[u8]) -> bool {
 }
 
 // Does the command of a line, and prints its answer.
-pub(crate) fn answer(card: Card, line: &[u8]) -> Card {
+pub(crate) fn answer<W: Write>(to: &mut W, card: Card, line: &[u8]) -> io::Result<Card> {
     let mut buffer = [0u8; 1350];
     if asks_master(line) {
-        bench_master::ask(line);
-        return card;
+        bench_master::ask(to, line)?;
+        return Ok(card);
     }
     let command = command::parse(line, &mut buffer);
-    perform(card, command, &buffer)
+    perform(to, card, command, &buffer)
 }

@@ -1,9 +1,10 @@
-// Standard input, a line at a time.
+// The input, a line at a time.
 //
 // The caller keeps what was read, the scrap, and the text of the line; a `Reader` is the place in both.
 ghost use Rattle.std.specs.Prelude.{◌≤◌};
 
-use libc::STDIN_FILENO;
+use std::io;
+use std::io::Read;
 
 // The characters of a line, at most 2700, and those of one read.
 pub(crate) type Text = [u8; 2700];
@@ -79,45 +80,47 @@ impl Reader {
     }
 
     // Reads a scrap more. At the end of the input what there is of a line is a whole one.
-    fn refill(self, scrap: &mut Scrap) -> Self {
+    fn refill<R: Read>(self, input: &mut R, scrap: &mut Scrap) -> io::Result<Self> {
         if self.open {
-            let got = libc::read(STDIN_FILENO, scrap);
-            if got > 0 {
-                let end = io::count(got, scrap);
-                return Reader {
+            let end = input.read(scrap)?;
+            if end > 0 {
+                return Ok(Reader {
                     at: 0,
                     end,
                     len: self.len,
                     whole: false,
                     open: true,
-                };
+                });
             }
         }
-        Reader {
+        Ok(Reader {
             at: 0,
             end: 0,
             len: self.len,
             whole: self.len > 0,
             open: false,
-        }
+        })
     }
 
     // The next line: `whole`, the first `len` characters of `text`; or not whole, where there is none.
-    pub(crate) fn next(self, scrap: &mut Scrap, text: &mut Text) -> Self {
+    pub(crate) fn next<R: Read>(
+        self,
+        input: &mut R,
+        scrap: &mut Scrap,
+        text: &mut Text,
+    ) -> io::Result<Self> {
         let mut reader = self;
         reader.len = 0;
-        let mut turns = u64::MAX;
-        while turns > 0 {
+        for _ in 0..u64::MAX {
             reader = reader.take(scrap, text);
             if reader.whole {
-                return reader;
+                return Ok(reader);
             }
-            reader = reader.refill(scrap);
+            reader = reader.refill(input, scrap)?;
             if !reader.open {
-                return reader;
+                return Ok(reader);
             }
-            turns -= 1;
         }
-        reader
+        Ok(reader)
     }
 }

@@ -2,20 +2,28 @@
 use card::Card;
 use drive::{CAUSES, DIN1, FLAGS, Plant, STATION};
 use port::{Numbers, PROTOCOL, SIOERR, SUM};
+use std::io;
+use std::io::Write;
 use table::names::*;
 
 // `state`: prints the line.
-pub(crate) fn print(card: Card) {
+pub(crate) fn print<W: Write>(to: &mut W, card: Card) -> io::Result<()> {
     let line = card.port;
     let pending = line.pending;
     let held = pending.bytes;
     let port = line.numbers;
     let plant = card.plant;
-    show(&held, pending.len, &port, &plant);
+    show(to, &held, pending.len, &port, &plant)
 }
 
 // The same of the card's parts.
-fn show(held: &[u8; 512], len: usize, port: &Numbers, plant: &Plant) {
+fn show<W: Write>(
+    to: &mut W,
+    held: &[u8; 512],
+    len: usize,
+    port: &Numbers,
+    plant: &Plant,
+) -> io::Result<()> {
     let mut out = [0u8; 2048];
     let others = [
         plant[MODE],
@@ -41,5 +49,5 @@ fn show(held: &[u8; 512], len: usize, port: &Numbers, plant: &Plant) {
         waiting,
         plant[DRIVE_STATUS],
     );
-    bench_lines::end(&mut out, n);
+    bench_lines::end(to, &mut out, n)
 }

@@ -1,63 +1,81 @@
--- The fewest decimal digits that hold a number are its digits as `decimal_of` has them. Assumes nothing.
-use mathlib.Core.Path.{◌≡◌, refl, ap, ap₂, subst, ◌∙◌}
-use mathlib.Core.Bool.{Bool, true, false}
-use mathlib.Core.List.{List, [], ◌∷◌, ◌++◌}
-use Prim.Native.Nat.{ℕ, zero, suc, ◌+◌, ◌-◌, ◌*◌, ◌/◌, ◌%◌, ◌^◌, ◌≤◌, ◌<◌}
-use native.Mathlib.Nat.{one-le-pow, pow-suc, pow-le-pow_right}
-use native.Mathlib.Omega.{arith}
-use borrow.Author.Tests.{leb-true, leb-false, lt-ltb, le-ltb}
+-- The digits of a number, put one in front of the other from the last on, are its digits as `decimal_of` has them. Assumes nothing.
+use Rattle.std.proofs.Common.{◌≡◌, ℕ, zero, suc, ◌+◌, ◌-◌, ◌*◌, ◌/◌, ◌%◌, ◌^◌, ◌≤◌, ◌<◌, List, [], ◌∷◌, ◌++◌, length, set, take, drop, length-drop, sym, ap, ◌∙◌, append_assoc, add-one, arith, lt-ltb, le-ltb, drop_of_length-le}
+use mathlib.Core.List.{append-nil}
+use Rattle.std.proofs.lemmas.List.{drop-set, take_all}
+use Rattle.std.proofs.Math.Nat.{pow-suc}
+use Rattle.std.proofs.Math.ListN.{length-set}
 use mir.Syntax.{w64}
 use mir.Val.{Fits}
-use lib.Dec.{leb}
-use lib.ListN.{take}
-use Rattle.io.specs.Digits.{hex_digit_ascii, last_digits, IsDigitCount}
 use Rattle.bench_lines.specs.Answer.{digits_up_to, decimal_of}
-use Rattle.bench_lines.proofs.Laws.{Put}
 
-numeral : (d : ℕ) → d < 10 → hex_digit_ascii d ≡ 0x30 + d
-numeral d h = simp (lt-ltb d 10 h)
-
-last : (n : ℕ) → ◌≡◌ {A = List ℕ} (hex_digit_ascii (n % 10) ∷ []) ((0x30 + n % 10) ∷ [])
-last n = ap (λ (d : ℕ). d ∷ []) (numeral (n % 10) (omega arith))
-
-one_digit : (f n : ℕ) → n < 10 → (0x30 + n % 10) ∷ [] ≡ digits_up_to f n
+one_digit : (f n : ℕ) → n < 10 → (0x30 + n) ∷ [] ≡ digits_up_to f n
 unfolding digits_up_to
-one_digit zero n h = refl
-one_digit (suc f) n h = simp (lt-ltb n 10 h)
+one_digit zero n h = let same : n % 10 ≡ n = omega arith in rw same
+one_digit (suc f) n h = let same : n % 10 ≡ n = omega arith in simp (lt-ltb n 10 h, same)
 
 more_digits : (f n : ℕ) → 10 ≤ n → digits_up_to f (n / 10) ++ ((0x30 + n % 10) ∷ []) ≡ digits_up_to (suc f) n
 unfolding digits_up_to
 more_digits f n h = simp (le-ltb n 10 h)
 
-fewest_digits : (f k n : ℕ) → n < 10 ^ suc k → (1 < suc k → 10 ^ k ≤ n) → k ≤ f → last_digits 10 (suc k) n ≡ digits_up_to f n
-fewest_digits f zero n below above h = last n ∙ one_digit f n (omega arith)
-fewest_digits zero (suc k) n below above h = absurd (omega arith)
-fewest_digits (suc f) (suc k) n below above h =
-    let least : 10 ^ suc k ≤ n = above (omega arith) in
-    let some : 1 ≤ 10 ^ k = one-le-pow k 10 (omega arith) in
-    let ten : 10 ^ suc k ≡ 10 ^ k * 10 = pow-suc 10 k in
-    let hundred : 10 ^ suc (suc k) ≡ 10 ^ suc k * 10 = pow-suc 10 (suc k) in
-    ap₂ ◌++◌ (fewest_digits f k (n / 10) (omega arith) (λ w. omega arith) (omega arith)) (last n) ∙ more_digits f n (omega arith)
+-- what is put from place `at` on, and the digits of `rest` in front of it, are those of the number
+pub record Spelling (number rest at : ℕ) (digits : List ℕ) : Type 0 where
+  pub some : 1 ≤ at
+  pub room : at ≤ 20
+  pub long : length digits ≡ 20
+  pub below : rest < 10 ^ at
+  pub left : digits_up_to (at - 1) rest ++ drop at digits ≡ decimal_of number
 
-decimal_said : (n k : ℕ) → k ≤ 20 → IsDigitCount 10 1 n k → last_digits 10 k n ≡ decimal_of n
+pub spelling_starts : (number : ℕ) (digits : List ℕ) → Fits w64 number → length digits ≡ 20 → Spelling number number 20 digits
 unfolding decimal_of
-decimal_said n zero h e = absurd (omega arith)
-decimal_said n (suc k) h e = fewest_digits 19 k n e.1 (λ w. let p : suc k - 1 ≡ k = omega arith in rw p at (e.2 w)) (omega arith)
+spelling_starts number digits f l =
+    let past : length digits ≤ 20 = omega arith in
+    let none : drop 20 digits ≡ [] = drop_of_length-le digits past in
+    record {
+      some = omega arith;
+      room = omega arith;
+      long = l;
+      below = omega arith;
+      left = rw none (append-nil (digits_up_to 19 number));
+    }
 
--- a number of 64 bits has 20 digits at most
-few : (n k : ℕ) → Fits w64 n → IsDigitCount 10 1 n k → k ≤ 20
-few n k f e = go (leb k 20) refl
-  where
-    go : (t : Bool) → leb k 20 ≡ t → k ≤ 20
-    go true q = leb-true k 20 q
-    go false q =
-        let many : 20 < k = leb-false k 20 q in
-        let least : 10 ^ (k - 1) ≤ n = e.2 (omega arith) in
-        let some : 0 < 10 = omega arith in
-        let places : 20 ≤ k - 1 = omega arith in
-        let power : 10 ^ 20 ≤ 10 ^ (k - 1) = pow-le-pow_right some places in
-        absurd (omega arith)
+pub spelling_next : (number rest at next : ℕ) (digits : List ℕ) → Spelling number rest at digits → 10 ≤ rest → next ≡ at - 1
+    → Spelling number (rest / 10) next (set digits next (0x30 + rest % 10))
+spelling_next number rest zero next digits s h e = absurd (omega (arith, s.some))
+spelling_next number rest (suc zero) next digits s h e = absurd (omega (arith, s.below))
+spelling_next number rest (suc (suc m)) next digits s h e =
+    let place : next ≡ suc m = omega arith in
+    let within : suc m < length digits = omega (arith, s.room, s.long) in
+    let power : 10 ^ suc (suc m) ≡ 10 ^ suc m * 10 = pow-suc 10 (suc m) in
+    let front : suc (suc m) - 1 ≡ suc m = omega arith in
+    let behind : suc m - 1 ≡ m = omega arith in
+    rw place record {
+      some = omega arith;
+      room = omega (arith, s.room);
+      long = length-set digits (suc m) (0x30 + rest % 10) ∙ s.long;
+      below = omega (arith, s.below);
+      left =
+          ap (λ (k : ℕ). digits_up_to k (rest / 10) ++ drop (suc m) (set digits (suc m) (0x30 + rest % 10))) behind
+          ∙ ap (λ (l : List ℕ). digits_up_to m (rest / 10) ++ l) (drop-set digits (suc m) (0x30 + rest % 10) within)
+          ∙ ap (λ (k : ℕ). digits_up_to m (rest / 10) ++ ((0x30 + rest % 10) ∷ drop k digits)) (add-one (suc m))
+          ∙ sym (append_assoc (digits_up_to m (rest / 10)) ((0x30 + rest % 10) ∷ []) (drop (suc (suc m)) digits))
+          ∙ ap (λ (l : List ℕ). l ++ drop (suc (suc m)) digits) (more_digits m rest h)
+          ∙ (rw front at s.left);
+    }
 
--- what was spelt, and then put
-pub decimal_put : (o o₁ spelt : List ℕ) (at r n k : ℕ) → Fits w64 n → IsDigitCount 10 1 n k → take k spelt ≡ last_digits 10 k n → Put o at (take k spelt) r o₁ → Put o at (decimal_of n) r o₁
-decimal_put o o₁ spelt at r n k f e d p = subst (λ (text : List ℕ). Put o at text r o₁) (d ∙ decimal_said n k (few n k f e) e) p
+pub spelling_done : (number rest at next : ℕ) (digits : List ℕ) → Spelling number rest at digits → rest < 10 → next ≡ at - 1
+    → drop next (set digits next (0x30 + rest)) ≡ decimal_of number
+spelling_done number rest zero next digits s h e = absurd (omega (arith, s.some))
+spelling_done number rest (suc m) next digits s h e =
+    let place : next ≡ m = omega arith in
+    let within : m < length digits = omega (arith, s.room, s.long) in
+    let front : suc m - 1 ≡ m = omega arith in
+    rw place (
+    drop-set digits m (0x30 + rest) within
+    ∙ ap (λ (k : ℕ). (0x30 + rest) ∷ drop k digits) (add-one m)
+    ∙ ap (λ (l : List ℕ). l ++ drop (suc m) digits) (one_digit m rest h)
+    ∙ (rw front at s.left)
+    )
+
+-- all that stands from a place on in twenty characters
+pub all_behind : (digits text : List ℕ) (at : ℕ) → length digits ≡ 20 → drop at digits ≡ text → take (20 - at) (drop at digits) ≡ text
+all_behind digits text at l e = take_all (20 - at) (drop at digits) (omega (arith, length-drop at digits)) ∙ e

@@ -17,33 +17,37 @@ use Rattle.bench_lines.specs.State.{is_short, is_long, column_of, columns_of}
 
 -- a text was put at a place of a buffer: where it ends, and the buffer then
 abbrev pub Put : List ℕ → ℕ → List ℕ → ℕ → List ℕ → Type 0
-Put buffer at text end after = (end ≡ end_of buffer at text) × (after ≡ sets buffer at text)
+Put buffer at text end after = record { end : end ≡ end_of buffer at text; lent : after ≡ sets buffer at text }
+
+-- the same text
+pub put_same : (o o₁ a b : List ℕ) (at r : ℕ) → a ≡ b → Put o at a r o₁ → Put o at b r o₁
+put_same o o₁ a b at r e p = subst (λ (text : List ℕ). Put o at text r o₁) e p
 
 -- one character, where there is room and where there is none
 pub put_here : (o : List ℕ) (at c : ℕ) → at < length o → Put o at (c ∷ []) (at + 1) (set o at c)
 unfolding end_of
-put_here o at c h = (omega arith, refl)
+put_here o at c h = record { end = omega arith; lent = refl }
 
 pub put_out : (o : List ℕ) (at c : ℕ) → length o ≤ at → Put o at (c ∷ []) at o
 unfolding end_of
-put_out o at c h = (omega arith, sym (set_out o at c h))
+put_out o at c h = record { end = omega arith; lent = sym (set_out o at c h) }
 
 -- one text, then the next
 pub then : (o o₁ o₂ a b : List ℕ) (at r s : ℕ) → Put o at a r o₁ → Put o₁ r b s o₂ → Put o at (a ++ b) s o₂
 unfolding end_of
 then o o₁ o₂ a b at r s p u =
-    let kept : length o₁ ≡ length o = ap length p.1 ∙ length-sets o at a in
-    (omega (arith, length-append a b), u.1 ∙ go kept (leb (at + length a) (length o)) refl)
+    let kept : length o₁ ≡ length o = ap length p.lent ∙ length-sets o at a in
+    record { end = omega (arith, length-append a b, p.end, u.end); lent = u.lent ∙ go kept (leb (at + length a) (length o)) refl }
   where
     go : length o₁ ≡ length o → (t : Bool) → leb (at + length a) (length o) ≡ t → sets o₁ r b ≡ sets o at (a ++ b)
     go kept true e =
         let fits : at + length a ≤ length o = leb-true _ _ e in
-        let place : r ≡ at + length a = omega arith in
-        rw (place, p.1) (sym (sets_append a b o at))
+        let place : r ≡ at + length a = omega (arith, p.end) in
+        rw (place, p.lent) (sym (sets_append a b o at))
     go kept false e =
         let past : length o < at + length a = leb-false _ _ e in
         let kept₂ : length (sets o at a) ≡ length o = length-sets o at a in
-        sets_out b o₁ r (omega arith) ∙ p.1 ∙ sym (sets_out b (sets o at a) (at + length a) (omega arith)) ∙ sym (sets_append a b o at)
+        sets_out b o₁ r (omega (arith, p.end)) ∙ p.lent ∙ sym (sets_out b (sets o at a) (at + length a) (omega arith)) ∙ sym (sets_append a b o at)
 
 -- ---- a loop that puts a text: putting what is left gives the whole
 pub record Putting (o₀ : List ℕ) (at : ℕ) (whole o : List ℕ) (n : ℕ) (left : List ℕ) : Type 0 where
@@ -56,17 +60,17 @@ putting_starts o at whole = record { end = refl; stores = refl }
 pub putting_next : {o₀ : List ℕ} {at : ℕ} {whole o o₁ left : List ℕ} {n r : ℕ} (a b : List ℕ) → left ≡ a ++ b → Putting o₀ at whole o n left → Put o n a r o₁
     → Putting o₀ at whole o₁ r b
 putting_next {o₀} {at} {whole} {o} {o₁} {left} {n} {r} a b e p q =
-    let u : Put o n (a ++ b) (end_of o₁ r b) (sets o₁ r b) = then o o₁ (sets o₁ r b) a b n r (end_of o₁ r b) q (refl, refl) in
+    let u : Put o n (a ++ b) (end_of o₁ r b) (sets o₁ r b) = then o o₁ (sets o₁ r b) a b n r (end_of o₁ r b) q (record { end = refl; lent = refl }) in
     record {
-      end = p.end ∙ ap (end_of o n) e ∙ sym u.0;
-      stores = p.stores ∙ ap (sets o n) e ∙ sym u.1;
+      end = p.end ∙ ap (end_of o n) e ∙ sym u.end;
+      stores = p.stores ∙ ap (sets o n) e ∙ sym u.lent;
     }
 
 pub putting_done : {o₀ : List ℕ} {at : ℕ} {whole o left : List ℕ} {n : ℕ} → left ≡ [] → Putting o₀ at whole o n left → Put o₀ at whole n o
 unfolding end_of
 putting_done {o₀} {at} {whole} {o} {left} {n} e p =
     let none : length left ≡ 0 = ap length e in
-    (omega (arith, p.end), sym (p.stores ∙ ap (sets o n) e))
+    record { end = omega (arith, p.end); lent = sym (p.stores ∙ ap (sets o n) e) }
 
 pub putting_kept : {o₀ : List ℕ} {at : ℕ} {whole o left : List ℕ} {n : ℕ} → Putting o₀ at whole o n left → length o ≡ length o₀
 putting_kept {o₀} {at} {whole} {o} {left} {n} p = sym (length-sets o n left) ∙ ap length (sym p.stores) ∙ length-sets o₀ at whole

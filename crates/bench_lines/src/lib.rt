@@ -1,6 +1,8 @@
 // The answers of the bench as text: numbers in decimal, bytes in hex, and the state line.
 // An answer gathers in a buffer of the caller's, and each routine hands back the place where it ends now. What does not fit is left out.
-// `end` writes it to standard output.
+// `end` hands it to a writer.
+#![tactic(auto)]
+
 mod numbers;
 mod state;
 
@@ -8,9 +10,10 @@ ghost use Rattle.std.specs.Prelude.{◌≡◌, [], ◌∷◌, ◌/◌, ◌%◌};
 ghost use Rattle.std.proofs.lemmas.List.Edits.{sets};
 ghost use Rattle.bench_lines.specs.Answer.{end_of, pair_of, shown};
 
-use libc::STDOUT_FILENO;
 pub use numbers::{signed16, signed32, spaced, unsigned};
 pub use state::state_line;
+use std::io;
+use std::io::Write;
 
 // One character more.
 pub fn put(out: &mut [u8], at: usize, character: u8) -> usize
@@ -64,12 +67,13 @@ pub fn bytes(out: &mut [u8], at: usize, bytes: &[u8]) -> usize
     n
 }
 
-// The line's end: the answer is written to standard output, in one piece.
-pub fn end(out: &mut [u8], at: usize)
+// The line's end: the answer is written to `to`, in one piece. Where that fails the error is the writer's own, and the buffer is as it is otherwise.
+pub fn end<W: Write>(to: &mut W, out: &mut [u8], at: usize) -> io::Result<()>
     ensures lent { out.new ≡ sets out.old at (0x0A ∷ []) }
 {
     let n = put(out, at, b'\n');
     if n <= out.len() {
-        io::write_all(STDOUT_FILENO, &out[0..n]);
+        to.write_all(&out[0..n])?;
     }
+    Ok(())
 }

@@ -1,5 +1,5 @@
 // Numbers in decimal.
-ghost use Rattle.std.specs.Prelude.{◌≡◌, ◌∷◌, ◌%◌, ◌≤◌};
+ghost use Rattle.std.specs.Prelude.{◌≡◌, ◌∷◌, ◌%◌, ◌≤◌, drop};
 ghost use Rattle.std.proofs.lemmas.List.Edits.{sets};
 ghost use Rattle.bench_lines.specs.Answer.{end_of, decimal_of, signed_of};
 
@@ -11,8 +11,25 @@ pub fn unsigned(out: &mut [u8], at: usize, number: u64) -> usize
     ensures lent { out.new ≡ sets out.old at (decimal_of number) }
 {
     let mut digits = [0u8; 20];
-    let k = io::decimal(number, &mut digits);
-    put_all(out, at, &digits[..k])
+    let first = decimal(number, &mut digits);
+    put_all(out, at, &digits[first..])
+}
+
+// Puts the digits of a number at the end of `digits`, and tells where the first of them stands.
+fn decimal(number: u64, digits: &mut [u8; 20]) -> usize
+    ensures within { result ≤ 20 }
+    ensures spelt { drop result digits.new ≡ decimal_of number }
+{
+    let mut rest = number;
+    let mut at: usize = 20;
+    while 10 <= rest {
+        at -= 1;
+        digits[at] = b'0' + (rest % 10) as u8;
+        rest /= 10;
+    }
+    at -= 1;
+    digits[at] = b'0' + rest as u8;
+    at
 }
 
 // A space, and a number in decimal.

@@ -1,9 +1,11 @@
 // The lines of more than three words. Each tells a master to write a request into a lent buffer, and the whole buffer is printed.
-ghost use Rattle.std.specs.Prelude.{◌≡◌};
+ghost use Rattle.std.specs.Prelude.{◌≡◌, IfOk};
 
 use bench_words::{Number, Short, Spelling};
 use master::Sent;
 use master_request::Ask;
+use std::io;
+use std::io::Write;
 use table::{ENumber, Register};
 
 // What comes of a line.
@@ -169,22 +171,21 @@ fn answer(out: &mut [u8], sent: Sent, buffer: &[u8]) -> usize {
 }
 
 // Does what the line tells, with a lent buffer of the size asked, and prints the answer.
-fn ask_in(line: &[u8], buffer: &mut [u8]) {
+fn ask_in<W: Write>(to: &mut W, line: &[u8], buffer: &mut [u8]) -> io::Result<()> {
     let mut bytes = [0u8; 1350];
     let mut out = [0u8; 2048];
     let Asked::Sent(sent) = request(line, &mut bytes, buffer) else {
-        unknown();
-        return;
+        return unknown(to);
     };
     let n = answer(&mut out, sent, buffer);
-    bench_lines::end(&mut out, n);
+    bench_lines::end(to, &mut out, n)
 }
 
 // The answer to what is no command.
-fn unknown() {
+fn unknown<W: Write>(to: &mut W) -> io::Result<()> {
     let mut out = [0u8; 2];
     let n = bench_lines::put(&mut out, 0, b'?');
-    bench_lines::end(&mut out, n);
+    bench_lines::end(to, &mut out, n)
 }
 
 // The place of B: word 1, or word 2 where P stands before it.
@@ -192,9 +193,10 @@ fn place_of_size(line: &[u8]) -> usize {
     if bench_words::count(line) < 6 { 1 } else { 2 }
 }
 
-// Has a master write the request that the line tells, and prints the answer. B is 0 to 600; the line is no command where it is more.
-pub fn ask(line: &[u8])
-    ensures { result ≡ tt }
+// Has a master write the request that the line tells, and prints the answer to `to`. B is 0 to 600; the line is no command where it is more.
+// Where the printing fails, the error is the writer's own.
+pub fn ask<W: Write>(to: &mut W, line: &[u8]) -> io::Result<()>
+    ensures { IfOk result (λ u. u ≡ tt) }
 {
     let mut buffer = [0xA5u8; 600];
     let Number::Word(b) = bench_words::between(
@@ -202,13 +204,11 @@ pub fn ask(line: &[u8])
         u32::MAX,
         bench_words::word(line, place_of_size(line)),
     ) else {
-        unknown();
-        return;
+        return unknown(to);
     };
     let size = b as usize;
     if size <= 600 {
-        ask_in(line, &mut buffer[0..size]);
-        return;
+        return ask_in(to, line, &mut buffer[0..size]);
     }
-    unknown();
+    unknown(to)
 }

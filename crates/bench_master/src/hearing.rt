@@ -1,7 +1,9 @@
 // The replies that a master reads: what each of them says is printed.
-ghost use Rattle.std.specs.Prelude.{◌≡◌};
+ghost use Rattle.std.specs.Prelude.{◌≡◌, IfOk};
 
 use master_reply::{Heard, Reply};
+use std::io;
+use std::io::Write;
 use table::ENumber;
 
 // ` LETTER ADR`, as what a reply says begins.
@@ -88,29 +90,29 @@ fn modbus(out: &mut [u8], heard: Heard) -> usize {
     }
 }
 
-// Reads a reply of NFO serial, and prints what it says.
-pub fn hear_nfo(reply: &[u8])
-    ensures { result ≡ tt }
+// Reads a reply of NFO serial, and prints what it says to `to`.
+pub fn hear_nfo<W: Write>(to: &mut W, reply: &[u8]) -> io::Result<()>
+    ensures { IfOk result (λ u. u ≡ tt) }
 {
     let mut out = [0u8; 2048];
     let n = nfo(&mut out, master_nfo::read_reply(reply));
-    bench_lines::end(&mut out, n);
+    bench_lines::end(to, &mut out, n)
 }
 
-// Reads a reply of Modbus RTU, and prints what it says.
-pub fn hear_rtu(reply: &[u8])
-    ensures { result ≡ tt }
+// Reads a reply of Modbus RTU, and prints what it says to `to`.
+pub fn hear_rtu<W: Write>(to: &mut W, reply: &[u8]) -> io::Result<()>
+    ensures { IfOk result (λ u. u ≡ tt) }
 {
     let mut out = [0u8; 2048];
     let n = modbus(&mut out, master_rtu::read_reply(reply));
-    bench_lines::end(&mut out, n);
+    bench_lines::end(to, &mut out, n)
 }
 
-// Reads a reply of Modbus ASCII, and prints what it says.
-pub fn hear_ascii(reply: &[u8])
-    ensures { result ≡ tt }
+// Reads a reply of Modbus ASCII, and prints what it says to `to`.
+pub fn hear_ascii<W: Write>(to: &mut W, reply: &[u8]) -> io::Result<()>
+    ensures { IfOk result (λ u. u ≡ tt) }
 {
     let mut out = [0u8; 2048];
     let n = modbus(&mut out, master_ascii::read_reply(reply));
-    bench_lines::end(&mut out, n);
+    bench_lines::end(to, &mut out, n)
 }

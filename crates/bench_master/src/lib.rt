@@ -1,5 +1,8 @@
 // The commands of the bench for a master: `ask` has it write a request, `hear_nfo`, `hear_rtu` and `hear_ascii` read a reply.
-// Each prints its answer, and no contract can say what is printed; the texts and the master's routines have contracts of their own.
+// Each prints its answer to a writer of the caller's. No contract says what is printed; the texts and the master's routines have contracts of their own.
+// Where the printing fails, the error is the writer's own.
+#![tactic(auto)]
+
 mod asking;
 mod hearing;
 

@@ -1,11 +1,11 @@
 -- What a word spells, by the tests that the code makes. Assumes nothing.
 use mathlib.Core.Path.{◌≡◌, sym, ap, ◌∙◌}
-use mathlib.Core.Bool.{Bool, true, false, not}
+use mathlib.Core.Bool.{Bool, true, false}
 use mathlib.Core.List.{List, [], ◌∷◌}
 use Prim.Native.Nat.{ℕ, ◌+◌, ◌-◌, ◌*◌, ◌≤◌, ◌<◌}
 use native.Mathlib.Numerals.{add-one}
 use native.Mathlib.Omega.{arith}
-use borrow.Author.Tests.{eq-eqb, ne_eqb, lt-ltb, le-ltb, not-true, not-false}
+use borrow.Author.Tests.{eq-eqb, ne_eqb, lt-ltb, le-ltb}
 use lib.Dec.{eqb}
 use lib.ListN.{length, take, drop, get_or, drop_of_length-le}
 use lib.Seq.{sets, length-sets, take_all, drop-cons}
@@ -47,21 +47,21 @@ module _ (word : List ℕ) (i : ℕ) (rest : in_capitals (drop i word) ≡ in_ca
 
 -- a word that is no `-`
 module _ (word bytes : List ℕ) (r : Bool) (c : (r ≡ true → word ≡ 0x2D ∷ []) × (word ≡ 0x2D ∷ [] → r ≡ true)) (e : r ≡ false) (t : Bool) (told : t ≡ in_capitals word) where
-  pub spelt_small : not t ≡ true → (NotHex ≡ spelling_of word (length bytes)) × (bytes ≡ sets bytes 0 (bytes_spelt word))
+  pub spelt_small : t ≡ false → (NotHex ≡ spelling_of word (length bytes)) × (bytes ≡ sets bytes 0 (bytes_spelt word))
   unfolding spelling_of bytes_spelt
   spelt_small f =
       let other : same word (0x2D ∷ []) ≡ false = compared word (0x2D ∷ []) r false c e in
-      let small : in_capitals word ≡ false = sym told ∙ not-true t f in
+      let small : in_capitals word ≡ false = sym told ∙ f in
       (simp (other, small), simp (other, small))
 
 -- what is left: n is how many bytes the pairs spell
 module _ (word bytes after : List ℕ) (r : Bool) (c : (r ≡ true → word ≡ 0x2D ∷ []) × (word ≡ 0x2D ∷ [] → r ≡ true)) (e : r ≡ false)
-    (t : Bool) (told : t ≡ in_capitals word) (f : not t ≡ false) (n : ℕ) (p : (n ≡ length (bytes_of word)) × (after ≡ sets bytes 0 (bytes_of word))) where
+    (t : Bool) (told : t ≡ in_capitals word) (f : t ≡ true) (n : ℕ) (p : (n ≡ length (bytes_of word)) × (after ≡ sets bytes 0 (bytes_of word))) where
   other : same word (0x2D ∷ []) ≡ false
   other = compared word (0x2D ∷ []) r false c e
 
   capital : in_capitals word ≡ true
-  capital = sym told ∙ not-false t f
+  capital = sym told ∙ f
 
   kept : length after ≡ length bytes
   kept = ap length p.1 ∙ length-sets bytes 0 (bytes_of word)

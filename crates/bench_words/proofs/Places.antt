@@ -8,9 +8,8 @@ use native.Mathlib.Omega.{arith}
 use borrow.Author.Tests.{eq-eqb, ne_eqb}
 use lib.Dec.{eqb}
 use lib.ListN.{length, take, drop, get_or, drop_of_length-le}
-use lib.Seq.{drop-cons, take_all}
+use lib.Seq.{drop-cons}
 use Rattle.base.specs.Choice.{pick}
-use Rattle.bytes.specs.Bytes.{index_of, index_after, slice}
 use Rattle.bench_words.specs.Words.{count_from, word_count, behind_spaces, up_to_space, word_at}
 
 -- ---- counting: with the characters left the count is the line's
@@ -103,19 +102,43 @@ pass_end line k left i p h =
     none ∙ sym (behind_none left) ∙ ap (behind_spaces left) (sym none) ∙ p.behind
 
 -- ---- a word, up to the next space
-up_to_lem : (s : List ℕ) → take (index_of 0x20 s) s ≡ up_to_space s
-unfolding index_of index_after up_to_space
-up_to_lem [] = refl
-up_to_lem (c ∷ t) = go (eqb c 0x20) (up_to_lem t)
+pub word_taken : (s : List ℕ) → take (length (up_to_space s)) s ≡ up_to_space s
+unfolding up_to_space
+word_taken [] = refl
+word_taken (c ∷ t) = go (eqb c 0x20) (word_taken t)
   where
-    go : (b : Bool) → take (index_of 0x20 t) t ≡ up_to_space t → take (index_after b (index_of 0x20 t)) (c ∷ t) ≡ pick b [] (c ∷ up_to_space t)
+    go : (b : Bool) → take (length (up_to_space t)) t ≡ up_to_space t → take (length (pick b [] (c ∷ up_to_space t))) (c ∷ t) ≡ pick b [] (c ∷ up_to_space t)
     go true e = refl
     go false e = ap (λ (l : List ℕ). c ∷ l) e
 
-pub word_read : (line : List ℕ) (k from to : ℕ) → drop from line ≡ behind_spaces k line → to ≡ from + index_of 0x20 (slice from (length line) line)
+-- seeking its end from place `from` on: what is left of the word ends where the word does
+pub record Seeking (line : List ℕ) (from i : ℕ) : Type 0 where
+  pub passed : i ≤ length line
+  pub left : i + length (up_to_space (drop i line)) ≡ from + length (up_to_space (drop from line))
+
+seek_turn : (line : List ℕ) (i : ℕ) → i < length line → up_to_space (drop i line) ≡ pick (eqb (get_or line i 0) 0x20) [] (get_or line i 0 ∷ up_to_space (drop (i + 1) line))
+unfolding up_to_space
+seek_turn line i h = rw (add-one i, drop-cons line i 0 h)
+
+pub seek_found : (line : List ℕ) (from i : ℕ) → Seeking line from i → i < length line → get_or line i 0 ≡ 0x20 → i ≡ from + length (up_to_space (drop from line))
+seek_found line from i s h e =
+    let none : up_to_space (drop i line) ≡ [] = simp (eq-eqb (get_or line i 0) 0x20 e) at (seek_turn line i h) in
+    omega (arith, s.left, ap length none)
+
+pub seek_other : (line : List ℕ) (from i : ℕ) → Seeking line from i → i < length line → (get_or line i 0 ≡ 0x20 → ⊥) → Seeking line from (i + 1)
+seek_other line from i s h e =
+    let one : up_to_space (drop i line) ≡ get_or line i 0 ∷ up_to_space (drop (i + 1) line) = simp (ne_eqb (get_or line i 0) 0x20 e) at (seek_turn line i h) in
+    record { passed = omega arith; left = omega (arith, s.left, ap length one) }
+
+pub seek_end : (line : List ℕ) (from i : ℕ) → Seeking line from i → length line ≤ i → i ≡ from + length (up_to_space (drop from line))
+unfolding up_to_space
+seek_end line from i s h =
+    let none : drop i line ≡ [] = drop_of_length-le line h in
+    omega (arith, s.left, ap (λ (l : List ℕ). length (up_to_space l)) none)
+
+pub word_read : (line : List ℕ) (k from to : ℕ) → drop from line ≡ behind_spaces k line → to ≡ from + length (up_to_space (drop from line))
     → take (to - from) (drop from line) ≡ word_at k line
-unfolding slice word_at
+unfolding word_at
 word_read line k from to e h =
-    let whole : take (length line) line ≡ line = take_all (length line) line (omega arith) in
-    let size : to - from ≡ index_of 0x20 (drop from line) = omega (arith, h ∙ ap (λ (l : List ℕ). from + index_of 0x20 (drop from l)) whole) in
-    rw size (up_to_lem (drop from line) ∙ ap up_to_space e)
+    let size : to - from ≡ length (up_to_space (drop from line)) = omega arith in
+    rw size (word_taken (drop from line) ∙ ap up_to_space e)

@@ -1,8 +1,18 @@
 -- The time in milliseconds that the clock's answer tells. Assumes nothing.
-use Rattle.std.specs.Prelude.{Bool, false, ℕ, ◌+◌, ◌*◌, ◌/◌, eqb, ltb, ℤ, pos, negsuc}
+use Rattle.std.specs.Prelude.{◌≡◌, ◌<◌, Bool, false, ℕ, ◌+◌, ◌*◌, ◌/◌, eqb, ltb, ℤ, pos, negsuc}
 use Rattle.base.specs.Choice.{pick}
 use Rattle.clock.specs.declared.Time.{Time}
 use Rattle.clock.specs.declared.Time.TheVariants.{At, Unknown}
+
+-- what a call of C's that does what it was asked to, or fails, may answer: 0, or -1
+abbrev pub Status : ℤ → Type 0
+Status (pos k) = k ≡ 0
+Status (negsuc k) = k ≡ 0
+
+-- a number of nanoseconds within one second
+abbrev pub Nanos : ℤ → Type 0
+Nanos (pos n) = n < 1000000000
+Nanos (negsuc n) = ⊥
 
 -- a number that is not negative, as it is; any other is 0
 abbrev pub natural_of : ℤ → ℕ

@@ -1,9 +1,12 @@
 // The machine's monotonic clock: what it answers, and the time in milliseconds that its answer tells.
 //
 // No contract can say what the clock tells; what is made of it is promised.
+#![tactic(auto)]
+
 ghost use Rattle.std.specs.Prelude.{◌≡◌, pos};
-ghost use Rattle.libc.specs.Io.{Status, Nanos};
-ghost use Rattle.clock.specs.Time.{natural_of, time_of};
+ghost use Rattle.clock.specs.Time.{Status, Nanos, natural_of, time_of};
+
+use std::rt::Clock;
 
 // What the clock answered: its status, 0 where it told the time and -1 where not, and the time.
 #[derive(Clone, Copy)]
@@ -20,23 +23,31 @@ pub enum Time {
     Unknown,
 }
 
+// What there is where the clock told no time.
+const UNTOLD: Told = Told {
+    status: -1,
+    seconds: 0,
+    nanoseconds: 0,
+};
+
 // More seconds than this, 31 million years, are no time.
 const LAST_SECOND: u64 = 1_000_000_000_000_000;
 
 // Asks the monotonic clock. Where it told the time, the nanoseconds are within one second.
-pub fn monotonic() -> Told
+pub fn monotonic(rt: &impl Clock) -> Told
     ensures status { Status result.status }
     ensures nanos { result.status ≡ pos 0 → Nanos result.nanoseconds }
 {
-    let mut time = libc::types::timespec {
-        tv_sec: 0,
-        tv_nsec: 0,
+    let Ok(time) = rt.monotonic() else {
+        return UNTOLD;
     };
-    let status = libc::clock_gettime(libc::CLOCK_MONOTONIC, &mut time);
+    let Ok(seconds) = i64::try_from(time.as_secs()) else {
+        return UNTOLD;
+    };
     Told {
-        status,
-        seconds: time.tv_sec,
-        nanoseconds: time.tv_nsec,
+        status: 0,
+        seconds,
+        nanoseconds: time.subsec_nanos() as i64,
     }
 }
 

@@ -3,29 +3,31 @@
 //
 // The file `stdin` has the example of MB, the frame 02 07 (Serial Line V1.02, Appendix B), and its first byte alone; the digits 1 to 9, whose
 // CRC is the check value of CRC-16/MODBUS; a frame in either letters; no bytes; and three lines that are no frames.
+#![tactic(auto)]
+
 mod line;
 
-use libc::{STDIN_FILENO, STDOUT_FILENO};
 use line::Answer;
+use std::io;
+use std::io::{Read, Write};
 
-fn print(answer: Answer) {
+fn print<W: Write>(out: &mut W, answer: Answer) -> io::Result<()> {
     let Answer::Crc(crc) = answer else {
-        io::write_all(STDOUT_FILENO, b"?\n");
-        return;
+        return out.write_all(b"?\n");
     };
     let word = [(crc / 256) as u8, (crc % 256) as u8];
     let mut text = [b'\n'; 5];
     hex_pairs::encode(&word, &mut text);
-    io::write_all(STDOUT_FILENO, &text);
+    out.write_all(&text)
 }
 
 // Answers the line of the first `len` characters of `text`, or one that is longer than `text`.
-fn answer(text: &[u8; 1024], len: usize) {
+fn answer<W: Write>(out: &mut W, text: &[u8; 1024], len: usize) -> io::Result<()> {
     let characters = &text[..];
     if len <= characters.len() {
-        print(line::line_crc(&characters[0..len]));
+        print(out, line::line_crc(&characters[0..len]))
     } else {
-        print(Answer::NoFrame);
+        print(out, Answer::NoFrame)
     }
 }
 
@@ -40,19 +42,22 @@ fn add(text: &mut [u8; 1024], len: usize, character: u8) -> usize {
 }
 
 // Takes what was read, answers each line that ends in it, and hands back how much of the next there is.
-fn feed(scrap: &[u8], text: &mut [u8; 1024], len: usize) -> usize {
+fn feed<W: Write>(
+    out: &mut W,
+    scrap: &[u8],
+    text: &mut [u8; 1024],
+    len: usize,
+) -> io::Result<usize> {
     let mut n = len;
-    let mut i: usize = 0;
-    while i < scrap.len() {
-        if scrap[i] == b'\n' {
-            answer(text, n);
+    for character in scrap {
+        if *character == b'\n' {
+            answer(out, text, n)?;
             n = 0;
         } else {
-            n = add(text, n, scrap[i]);
+            n = add(text, n, *character);
         }
-        i += 1;
     }
-    n
+    Ok(n)
 }
 
 #[derive(Clone, Copy)]
@@ -61,32 +66,37 @@ struct Got {
     more: bool,
 }
 
-fn read_some(text: &mut [u8; 1024], len: usize) -> Got {
-    let mut scrap = io::buffer();
-    let got = libc::read(STDIN_FILENO, &mut scrap);
-    if got <= 0 {
-        return Got { len, more: false };
+fn read_some<R: Read, W: Write>(
+    input: &mut R,
+    out: &mut W,
+    text: &mut [u8; 1024],
+    len: usize,
+) -> io::Result<Got> {
+    let mut scrap = [0u8; 4096];
+    let n = input.read(&mut scrap)?;
+    if n == 0 {
+        return Ok(Got { len, more: false });
     }
-    let n = io::count(got, &scrap);
-    Got {
-        len: feed(&scrap[..n], text, len),
+    Ok(Got {
+        len: feed(out, &scrap[..n], text, len)?,
         more: true,
-    }
+    })
 }
 
-fn main() {
+fn main(rt: HostRuntime) -> io::Result<()> {
+    let mut input = rt.stdin();
+    let mut out = rt.stdout();
     let mut text = [0u8; 1024];
     let mut len: usize = 0;
-    let mut turns = u64::MAX;
-    while turns > 0 {
-        let got = read_some(&mut text, len);
+    for _ in 0..u64::MAX {
+        let got = read_some(&mut input, &mut out, &mut text, len)?;
         len = got.len;
         if !got.more {
             break;
         }
-        turns -= 1;
     }
     if len > 0 {
-        answer(&text, len);
+        answer(&mut out, &text, len)?;
     }
+    Ok(())
 }

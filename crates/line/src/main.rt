@@ -4,37 +4,56 @@
 // so that is early enough.
 //
 // Wrong arguments are told on standard error, and no device is opened then: the file `args` has a protocol that there is not.
+#![tactic(auto)]
+
 use card::{Card, Protocol};
 use clock::Time;
 use identity::Identity;
-use libc::STDERR_FILENO;
 use protocols::Named;
-use session_loop::Replies;
+use std::env::FillError;
+use std::fmt::InlineText;
+use std::fs::OpenOptions;
+use std::io::{Read, Write};
+use std::rt::{Clock, Env, Files};
+use std::{io, str};
 
 // Who this card is, for a master that asks: the revision `Revision 02.03 PC`, the model `LineOnPC`, the serial number `0000000000000001`.
 const IDENTITY: Identity = *b"Revision 02.03 PCLineOnPC0000000000000001";
 
 // Tells how the program is called.
-fn usage() {
-    io::write_all(
-        STDERR_FILENO,
-        b"line: usage: line PROTOCOL DEVICE, PROTOCOL is nfo, rtu or ascii\n",
-    );
+fn usage(rt: &impl Eprint) -> io::Result<()> {
+    rt.eprintln("line: usage: line PROTOCOL DEVICE, PROTOCOL is nfo, rtu or ascii")
 }
 
 // Tells that the card cannot count time. It would not stop by itself then, so it is not run.
-fn no_time() {
-    io::write_all(STDERR_FILENO, b"line: the clock tells no time\n");
+fn no_time(rt: &impl Eprint) -> io::Result<()> {
+    rt.eprintln("line: the clock tells no time")
+}
+
+// Tells what failed, and why, in the system's words without their number.
+fn fail(rt: &impl Eprint, what: &str, error: io::Error) -> io::Result<()> {
+    let text = InlineText::<320>::of(error);
+    let said = text.as_str();
+    let why = match said.split_once(" (os error ") {
+        Some((words, _)) => words,
+        None => said,
+    };
+    eprintln!(rt; "{what}: {why}")
 }
 
 // The time that the clock tells now.
-fn present() -> Time {
-    let told = clock::monotonic();
+fn present(rt: &impl Clock) -> Time {
+    let told = clock::monotonic(rt);
     clock::time_of(told.status, told.seconds, told.nanoseconds)
 }
 
-// A card by the protocol on the open device, from this time on, to the device's end.
-fn run(protocol: Protocol, device: i32, start: u64) {
+// A card by the protocol on the open device, from this time on, to the device's end. A read that fails is the end too: so a line tells that its other end hung up.
+fn run<R: Clock + Print + Eprint, D: Read + Write>(
+    rt: &R,
+    protocol: Protocol,
+    device: &mut D,
+    start: u64,
+) -> io::Result<()> {
     let card = Card::start(protocol, IDENTITY);
     let line = card.port;
     let pending = line.pending;
@@ -43,22 +62,20 @@ fn run(protocol: Protocol, device: i32, start: u64) {
     let mut port = line.numbers;
     let mut plant = card.plant;
     let identity = card.identity;
-    let mut scrap = io::buffer();
+    let mut lines = io::writer(rt);
+    let mut scrap = [0u8; 4096];
     let mut last = start;
-    let mut turns = u64::MAX;
-    while turns > 0 {
-        let got = libc::read(device, &mut scrap);
-        if got <= 0 {
-            return;
+    for _ in 0..u64::MAX {
+        let n = device.read(&mut scrap).unwrap_or(0);
+        if n == 0 {
+            return Ok(());
         }
-        let Time::At(now) = present() else {
-            no_time();
-            return;
+        let Time::At(now) = present(rt) else {
+            return no_time(rt);
         };
         let passed = ticks::time_passed(last, now);
         ticks::hand_over(&mut port, &mut plant, passed.tenths);
         last = passed.last;
-        let n = io::count(got, &scrap);
         len = session_loop::serve_all(
             &mut held,
             len,
@@ -66,43 +83,49 @@ fn run(protocol: Protocol, device: i32, start: u64) {
             &mut plant,
             &identity,
             &scrap[..n],
-            Replies::Sent(device),
-        );
-        turns -= 1;
+            device,
+            &mut lines,
+        )?;
     }
+    Ok(())
 }
 
 // A card by the protocol on the device of this name.
-fn serve(protocol: Protocol, device: &[u8]) {
-    let Time::At(start) = present() else {
-        no_time();
-        return;
+fn serve<R: Clock + Files + Print + Eprint>(
+    rt: &R,
+    protocol: Protocol,
+    device: &str,
+) -> io::Result<()> {
+    let Time::At(start) = present(rt) else {
+        return no_time(rt);
     };
-    let port = os::open_update(device);
-    if port < 0 {
-        os::fail(device);
-        return;
+    match OpenOptions::new().read(true).write(true).open(rt, device) {
+        Ok(mut port) => run(rt, protocol, &mut port, start),
+        Err(error) => fail(rt, device, error),
     }
-    run(protocol, port, start);
-    libc::close(port);
 }
 
-fn main() {
-    let mut word = io::buffer();
-    let mut device = io::buffer();
-    if os::arg_count() != 3 {
-        usage();
-        return;
+// Whether the program was called with an argument at this place.
+fn has_argument(rt: &impl Env, place: usize) -> bool {
+    let mut start = [0u8; 1];
+    !matches!(&rt.arg(place, &mut start), Err(FillError::NotPresent))
+}
+
+fn main(rt: HostRuntime) -> io::Result<()> {
+    let mut word = [0u8; 4096];
+    let mut device = [0u8; 4096];
+    if !has_argument(&rt, 2) || has_argument(&rt, 3) {
+        return usage(&rt);
     }
-    let n = os::arg(1, &mut word);
+    let n = rt.arg(1, &mut word).unwrap_or(0);
     let Named::Protocol(protocol) = protocols::protocol_of(&word[..n]) else {
-        usage();
-        return;
+        return usage(&rt);
     };
-    let length = os::arg(2, &mut device);
-    if os::errno() != 0 {
-        os::fail(b"line: DEVICE");
-        return;
-    }
-    serve(protocol, &device[..length]);
+    let Ok(length) = rt.arg(2, &mut device) else {
+        return rt.eprintln("line: DEVICE: File name too long");
+    };
+    let Ok(name) = str::from_utf8(&device[..length]) else {
+        return rt.eprintln("line: DEVICE: not UTF-8");
+    };
+    serve(&rt, protocol, name)
 }

@@ -1,4 +1,6 @@
 // The words by which a user names a protocol: `nfo`, `rtu` and `ascii`.
+#![tactic(auto)]
+
 ghost use Rattle.std.specs.Prelude.{◌≡◌};
 ghost use Rattle.protocols.specs.Words.{protocol_named};
 

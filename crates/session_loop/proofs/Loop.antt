@@ -1,5 +1,6 @@
 -- The loop over what was read: a call uses bytes that are there, and one at least; and the calls are those that `Handed` names, and so those
 -- of a stream to its end. Assumes nothing.
+use Rattle.std.specs.Prelude.{Result, Ok, Err, OnErr}
 use mathlib.Core.Path.{◌≡◌, refl, sym, ap, subst, ◌∙◌}
 use mathlib.Core.List.{List, [], ◌∷◌, ◌++◌, append-nil}
 use Prim.Native.Nat.{ℕ, ◌+◌, ◌-◌, ◌≤◌, ◌<◌}
@@ -18,16 +19,18 @@ use Rattle.receive.specs.Receive.{received}
 use Rattle.receive.proofs.Laws.{received_used, received_uses, least_most}
 use Rattle.session_loop.specs.Line.{Report, reported, reported_in}
 use Rattle.session_loop.specs.declared.call.Reported.{Reported}
-use Rattle.session_loop.specs.Handed.{EndsAt, Handed, over, call}
+use Rattle.session_loop.specs.Handed.{EndsAt, Handed, over, call, Partly, none, after, Stopped}
 
--- what is left of the bytes, from the card that there is now, gives what all of them give from the first
-abbrev pub Left : Card → List ℕ → Card → List ℕ → Type 0
-Left c₀ scrap c rest = (d : Card) → Handed c rest d → Handed c₀ scrap d
+-- after some calls, a call more on the bytes that are left
+one_more : (c₀ : Card) (s₀ : List ℕ) (c : Card) (s : List ℕ) → Partly c₀ s₀ c s → 0 < length s → Partly c₀ s₀ (received c s ascii_least).card (drop (received c s ascii_least).used s)
+one_more c₀ s₀ c [] p h = absurd (omega arith)
+one_more c₀ s₀ c (b ∷ s) none h = after b s none
+one_more c₀ s₀ c (b ∷ s) (after b₀ l p) h = after b₀ l (one_more _ _ c (b ∷ s) p h)
 
--- a call on the bytes that are left
-some_call : (c d : Card) (s : List ℕ) → 0 < length s → Handed (received c s ascii_least).card (drop (received c s ascii_least).used s) d → Handed c s d
-some_call c d [] l h = absurd (omega arith)
-some_call c d (b ∷ s) l h = call b s h
+-- some calls, and those on what they left
+pub partly_over : (c₀ : Card) (s₀ : List ℕ) (c : Card) (s : List ℕ) (d : Card) → Partly c₀ s₀ c s → Handed c s d → Handed c₀ s₀ d
+partly_over c₀ s₀ c s d none h = h
+partly_over c₀ s₀ c s d (after b l p) h = call b l (partly_over _ _ c s d p h)
 
 module _ (c : Card) (scrap : List ℕ) (at : ℕ) (held : List ℕ) (q : Numbers) (p : Plant) (i : Identity) (t : Reported) (more : at < length scrap)
     (turns : reported_in held q p i t ≡ reported (received c (take (length scrap - at) (drop at scrap)) ascii_least)) where
@@ -52,16 +55,17 @@ module _ (c : Card) (scrap : List ℕ) (at : ℕ) (held : List ℕ) (q : Numbers
   used_less = omega (arith, used_within, same_used, received_uses c rest ascii_least (least_most (protocol_of c)) (omega (arith, rest_length)))
 
   -- one call more
-  pub handed_on : (c₀ : Card) → Left c₀ scrap c rest → (at + t.used ≤ length scrap) × Left c₀ scrap (card_of held t.pending q p i) (drop (at + t.used) scrap)
+  pub handed_on : (c₀ : Card) → Partly c₀ scrap c rest → Partly c₀ scrap (card_of held t.pending q p i) (drop (at + t.used) scrap)
   handed_on c₀ l =
       let unused : drop (at + t.used) scrap ≡ drop (received c rest ascii_least).used rest = sym (drop-drop t.used at scrap) ∙ ap (λ (n : ℕ). drop n rest) same_used in
-      let same-card : card_of held t.pending q p i ≡ (received c rest ascii_least).card = ap (λ (x : Report). x.card) turned in (
-        used_within,
-        λ d h.
-            l d
-            (some_call c d rest (omega (arith, rest_length))
-            (subst (λ (k : Card). Handed k (drop (received c rest ascii_least).used rest) d) same-card (subst (λ (s : List ℕ). Handed (card_of held t.pending q p i) s d) unused h))),
-      )
+      let same-card : card_of held t.pending q p i ≡ (received c rest ascii_least).card = ap (λ (x : Report). x.card) turned in
+      subst (λ (k : Card). Partly c₀ scrap k (drop (at + t.used) scrap)) (sym same-card)
+      (subst (λ (s : List ℕ). Partly c₀ scrap (received c rest ascii_least).card s) (sym unused) (one_more c₀ scrap c rest l (omega (arith, rest_length))))
+
+-- what is left where writing failed
+pub stopped_at : (c₀ : Card) (s t : List ℕ) (d : ℕ → Card) (n : ℕ) → Partly c₀ s (d n) t → Stopped c₀ s d
+unfolding Stopped
+stopped_at c₀ s t d n p = (n, t, p)
 
 -- a call on all the bytes that there are is a call of the stream
 a_call : (c : Card) (s : List ℕ) (k : Course) → Calls (received c s ascii_least).card (drop (received c s ascii_least).used s) k → Calls c s (adding (received c s ascii_least) k)
@@ -80,7 +84,10 @@ handed_ends_at c d s (call b l h) =
     (adding (received c (b ∷ l) ascii_least) e.0, a_call c (b ∷ l) e.0 e.1, e.2)
 
 -- no bytes are left
-pub handed_over : (c₀ c : Card) (scrap : List ℕ) (at : ℕ) → length scrap ≤ at → Left c₀ scrap c (drop at scrap) → EndsAt c₀ scrap c × Handed c₀ scrap c
-handed_over c₀ c scrap at h l =
-    let all : Handed c₀ scrap c = l c (subst (λ (s : List ℕ). Handed c s c) (sym (drop_of_length-le scrap h)) over) in
-    (handed_ends_at c₀ c scrap all, all)
+pub handed_over : (c₀ c : Card) (scrap : List ℕ) (at : ℕ) → length scrap ≤ at → Partly c₀ scrap c (drop at scrap) → Handed c₀ scrap c
+handed_over c₀ c scrap at h l = partly_over c₀ scrap c (drop at scrap) c l (subst (λ (s : List ℕ). Handed c s c) (sym (drop_of_length-le scrap h)) over)
+
+-- what holds anyway holds at an error
+pub at_error : {T E P : Type 0} (r : Result T E) → P → OnErr r P
+at_error (Ok x) p = tt
+at_error (Err e) p = p

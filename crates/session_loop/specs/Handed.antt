@@ -15,3 +15,12 @@ EndsAt c s d = (k : Course) × Calls c s k × (k.card ≡ d)
 pub data Handed : Card → List ℕ → Card → Type 0 where
   over : {c : Card} → Handed c [] c
   call : {c d : Card} (b : ℕ) (s : List ℕ) → Handed (received c (b ∷ s) ascii_least).card (drop (received c (b ∷ s) ascii_least).used (b ∷ s)) d → Handed c (b ∷ s) d
+
+-- `Partly c s d t`: of the bytes s that the card c is handed, some calls were made; d is the card then, and t is what is left to hand to it
+pub data Partly : Card → List ℕ → Card → List ℕ → Type 0 where
+  none : {c : Card} {s : List ℕ} → Partly c s c s
+  after : {c d : Card} {t : List ℕ} (b : ℕ) (s : List ℕ) → Partly (received c (b ∷ s) ascii_least).card (drop (received c (b ∷ s) ascii_least).used (b ∷ s)) d t → Partly c (b ∷ s) d t
+
+-- `Stopped c s d`: what is left where a reply or a line could not be written: the card after some of those calls, with n bytes pending
+unfoldable pub Stopped : Card → List ℕ → (ℕ → Card) → Type 0
+Stopped c s d = (n : ℕ) × (t : List ℕ) × Partly c s (d n) t

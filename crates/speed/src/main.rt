@@ -3,26 +3,38 @@
 // bytes and the reply's length of every call.
 //
 // The file `stdin` has two messages of NFO serial, case 2's ENQUIRY and a SELECT; `stdout` is what any card that follows document 01 comes to on them.
+#![tactic(auto)]
+
 mod rounds;
 mod workload;
 
+ghost use Rattle.std.specs.Prelude.{◌≤◌, length, IfOk};
+
 use card::{Card, Protocol};
 use identity::BLANK;
-use libc::{STDERR_FILENO, STDIN_FILENO, STDOUT_FILENO};
 use protocols::Named;
 use rounds::{Tally, round};
+use std::env::Env;
+use std::io;
+use std::io::{Read, Write};
 use workload::{Number, number_of, read_lines};
 
-fn complain() {
-    io::write_all(
-        STDERR_FILENO,
+fn complain<W: Write>(to: &mut W) -> io::Result<()> {
+    to.write_all(
         b"speed: usage: speed PROTOCOL ROUNDS < WORKLOAD; PROTOCOL is nfo, rtu or ascii, a line of WORKLOAD a message in capital hex\n",
-    );
+    )
 }
 
 // Prints what the rounds came to.
-fn print(word: &[u8], rounds: u64, bytes: usize, tally: Tally) {
+fn print<W: Write>(
+    out: &mut W,
+    word: &[u8],
+    rounds: u64,
+    bytes: usize,
+    tally: Tally,
+) -> io::Result<()> {
     let sum = tally.sum;
+    let taken = tally.taken;
     let digits = [
         (sum / 16777216) as u8,
         ((sum / 65536) % 256) as u8,
@@ -31,15 +43,12 @@ fn print(word: &[u8], rounds: u64, bytes: usize, tally: Tally) {
     ];
     let mut text = [b'\n'; 9];
     hex_pairs::encode(&digits, &mut text);
-    io::write_all(STDOUT_FILENO, word);
-    io::write_all(STDOUT_FILENO, b" rounds ");
-    io::print_decimal(STDOUT_FILENO, rounds);
-    io::write_all(STDOUT_FILENO, b" bytes/round ");
-    io::print_decimal(STDOUT_FILENO, bytes as u64);
-    io::write_all(STDOUT_FILENO, b" taken ");
-    io::print_decimal(STDOUT_FILENO, tally.taken);
-    io::write_all(STDOUT_FILENO, b" checksum ");
-    io::write_all(STDOUT_FILENO, &text);
+    out.write_all(word)?;
+    write!(
+        out,
+        " rounds {rounds} bytes/round {bytes} taken {taken} checksum "
+    )?;
+    out.write_all(&text)
 }
 
 // The rounds over a workload, from a fresh card on.
@@ -67,48 +76,66 @@ fn run(protocol: Protocol, rounds: u64, bytes: &[u8], ends: &[usize; 4096]) -> T
     tally
 }
 
+// Reads until `text` is full or the input ends, and tells how many bytes there are.
+fn read_full<R: Read>(input: &mut R, text: &mut [u8]) -> io::Result<usize>
+    ensures { IfOk result (λ n. n ≤ length text.new) }
+{
+    let mut done: usize = 0;
+    while done < text.len() {
+        let n = input.read(&mut text[done..])?;
+        if n == 0 {
+            return Ok(done);
+        }
+        done += n;
+    }
+    Ok(done)
+}
+
 // Reads the workload and runs.
-fn measure(word: &[u8], protocol: Protocol, rounds: u64) {
-    let mut text = io::large_buffer();
+fn measure(rt: &HostRuntime, word: &[u8], protocol: Protocol, rounds: u64) -> io::Result<()> {
+    let mut text = [0u8; 65536];
     let mut work = [0u8; 65536];
     let mut ends = [0usize; 4096];
-    let got = io::read_full(STDIN_FILENO, &mut text);
+    let got = read_full(&mut rt.stdin(), &mut text)?;
     let total = read_lines(&text[..got], &mut work, &mut ends);
-    report(word, protocol, rounds, &work, total, &ends);
+    report(rt, word, protocol, rounds, &work, total, &ends)
 }
 
 // Runs over the first `total` bytes, or complains where there are none.
 fn report(
+    rt: &HostRuntime,
     word: &[u8],
     protocol: Protocol,
     rounds: u64,
     work: &[u8; 65536],
     total: usize,
     ends: &[usize; 4096],
-) {
+) -> io::Result<()> {
     let all = &work[..];
     if total == 0 {
-        complain();
-        return;
+        return complain(&mut rt.stderr());
     }
     if total <= all.len() {
         let tally = run(protocol, rounds, &all[0..total], ends);
-        print(word, rounds, total, tally);
+        print(&mut rt.stdout(), word, rounds, total, tally)?;
     }
+    Ok(())
 }
 
-fn main() {
-    let mut word = io::buffer();
-    let mut number = io::buffer();
-    let n = os::arg(1, &mut word);
+fn main(rt: HostRuntime) -> io::Result<()> {
+    let mut word = [0u8; 4096];
+    let mut number = [0u8; 4096];
+    let Ok(n) = rt.arg(1, &mut word) else {
+        return complain(&mut rt.stderr());
+    };
     let Named::Protocol(protocol) = protocols::protocol_of(&word[..n]) else {
-        complain();
-        return;
+        return complain(&mut rt.stderr());
     };
-    let m = os::arg(2, &mut number);
+    let Ok(m) = rt.arg(2, &mut number) else {
+        return complain(&mut rt.stderr());
+    };
     let Number::Of(rounds) = number_of(&number[..m]) else {
-        complain();
-        return;
+        return complain(&mut rt.stderr());
     };
-    measure(&word[..n], protocol, rounds);
+    measure(&rt, &word[..n], protocol, rounds)
 }

@@ -40,7 +40,7 @@ pub(crate) fn read_lines(text: &[u8], work: &mut [u8; 65536], ends: &mut [usize;
     let mut count: usize = 0;
     let mut from: usize = 0;
     while from < text.len() {
-        let end = bytes::scan::find(text, from, text.len(), b'\n');
+        let end = line_end(text, from);
         let n = read_line(&text[from..end], work, total);
         if n == 0 {
             return 0;
@@ -54,6 +54,20 @@ pub(crate) fn read_lines(text: &[u8], work: &mut [u8; 65536], ends: &mut [usize;
         from = end + 1;
     }
     total
+}
+
+// Where the line that begins at `from` ends: at the next line feed, or at the end of all.
+fn line_end(text: &[u8], from: usize) -> usize
+    requires { from ≤ length text.now }
+    ensures after { from ≤ result }
+    ensures within { result ≤ length text.now }
+{
+    for i in from..text.len() {
+        if text[i] == b'\n' {
+            return i;
+        }
+    }
+    text.len()
 }
 
 // Puts the bytes of one line from place `total` on, and tells how many there are then, or 0 where it is no message in hex or there is no room.

@@ -18,7 +18,7 @@ unfolding passed_from
 passed_back last present h =
     let none : (present - last) / 100 ≡ 0 = omega arith in
     let kept : present - (present - last) % 100 ≡ present = omega arith in
-    rw (none, kept)
+    simp (none, kept)
 
 -- a clock that does not go back ends no earlier than it began
 rising_last : (later : List ℕ) (present : ℕ) → Rising present later → present ≤ last_of present later

@@ -2,6 +2,8 @@
 //
 // `time_passed` says how many tenths there are to hand over, `hand_over` hands them over. A card is seen by its messages alone, so its tenths are early enough just before
 // the next bytes, and none is lost or counted twice, however seldom or often the clock is read.
+#![tactic(auto)]
+
 ghost use Rattle.std.specs.Prelude.{◌≡◌};
 ghost use Rattle.ticks.specs.Ticks.{passed_from, handed_over};
 
@@ -41,7 +43,7 @@ pub fn time_passed(last: u64, present: u64) -> Passed
 
 // So many tenths pass on a card whose port and plant are lent: in ticks of 250, and one of the rest.
 pub fn hand_over(port: &mut Numbers, plant: &mut Plant, tenths: u64)
-    ensures { record { port = port.exit.now; plant = plant.new } ≡ handed_over tenths (record { port = port.entry.now; plant = plant.old }) }
+    ensures { record { port = port.new; plant = plant.new } ≡ handed_over tenths (record { port = port.old; plant = plant.old }) }
 {
     let mut left = tenths;
     while left >= LONGEST {
