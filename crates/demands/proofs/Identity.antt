@@ -11,7 +11,7 @@ use lib.Seq.{take_all}
 use Rattle.base.specs.Buffers.{rtu_least}
 use Rattle.base.specs.Bytes.{AllBelow, Bytes}
 use Rattle.base.proofs.Tests.{both_false}
-use Rattle.identity.specs.Identity.{Identity, Object, object, objects, revision, model, serial, chosen, up_to_lem, objects_asked, listed, objects_unit, part_unit}
+use Rattle.identity.specs.Identity.{Identity, Object, object, objects, revision, model, serial, chosen, up_to, objects_asked, listed, objects_unit, part_unit}
 use Rattle.identity.specs.declared.Part.{Part}
 use Rattle.identity.specs.declared.Part.TheVariants as Parts
 use Rattle.identity.specs.declared.Named.TheVariants as Names
@@ -109,7 +109,7 @@ in_range code object first last (regular_outside h) = (omega arith, omega arith,
 in_range code object first last (one h) = (omega arith, omega arith, omega arith)
 
 asked_range : (code object first last : ℕ) → Range code object first last → objects_asked code object ≡ Names.Part (Parts.Objects code first last)
-unfolding objects_asked up_to_lem
+unfolding objects_asked up_to
 asked_range code object first last (basic h) = simp (le-ltb 2 object h)
 asked_range code object first last (basic_outside h) = simp (lt-ltb 2 object h)
 asked_range code object first last (regular h) = simp (le-ltb 6 object h)
