@@ -108,13 +108,13 @@ def read():
 
 
 def crates():
-    """Each crate with those that it names."""
+    """Each crate with those that it names; behind the name of a static library stands the word `staticlib`."""
     named = {}
     with open(CRATES, encoding="utf-8") as file:
         for line in file:
             if line.strip() and not line.startswith("#"):
                 crate, _, rest = line.partition(":")
-                named[crate.strip()] = rest.split()
+                named[crate.split()[0]] = rest.split()
     return named
 
 

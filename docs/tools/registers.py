@@ -79,12 +79,12 @@ def address_rule():
 
 
 def setpoint():
-    """Setpoint's ranges, one for each Mode, as `atMode` has them."""
+    """Setpoint's ranges, one for each Mode, as `at_mode` has them."""
     path = "crates/allowed/specs/Allowed.antt"
-    body = find(r"\natMode m v =\n(.*?)\n\n", text(path), path).group(1)
+    body = find(r"\nat_mode m v =\n(.*?)\n\n", text(path), path).group(1)
     ranges = [(int(m), int(n)) for m, n in re.findall(r"pick \(eqb m (\d+)\) \(about (\d+) v\)", body)]
     if [m for m, _ in ranges] != [0, 1, 2, 3] or body.count("about") != 4:
-        raise Bad("%s: atMode is not a range for each Mode" % path)
+        raise Bad("%s: at_mode is not a range for each Mode" % path)
     parts = []
     for n in dict.fromkeys(n for _, n in ranges):
         parts.append("±%d at %s" % (n, " or ".join(str(m) for m, k in ranges if k == n)))
@@ -92,8 +92,8 @@ def setpoint():
 
 
 def number(word):
-    """`pos 3` or `negℤ (pos 3)`."""
-    found = re.fullmatch(r"pos (\d+)|negℤ \(pos (\d+)\)", word)
+    """`pos 3` or `neg_ℤ (pos 3)`."""
+    found = re.fullmatch(r"pos (\d+)|neg_ℤ \(pos (\d+)\)", word)
     if not found:
         raise Bad("no number: %s" % word)
     return found.group(1) or "−" + found.group(2)
@@ -113,7 +113,7 @@ def allowed(word):
     found = re.fullmatch(r"\(between (\d+) (\d+)\)", word)
     if found:
         return "%s..%s" % found.groups()
-    found = re.fullmatch(r"\(about-0 (\d+)\)", word)
+    found = re.fullmatch(r"\(about_0 (\d+)\)", word)
     if found:
         return "−%s..%s" % (found.group(1), found.group(1))
     found = re.fullmatch(r"\(these \((.*) ∷ \[\]\)\)", word)
@@ -122,7 +122,7 @@ def allowed(word):
     raise Bad("no column Allowed: %s" % word)
 
 
-ROW = re.compile(r"row (\S+) (?:\(E 0x([0-9A-F]{4})\)|(no-E)) \((ADI|register) (\w+)\) ([12]) (.*) (Init|Run|OnlyRead) (?:\(Word (\d+)\)|NoWord)")
+ROW = re.compile(r"row (\S+) (?:\(E 0x([0-9A-F]{4})\)|(no_e)) \((ADI|register) (\w+)\) ([12]) (.*) (Init|Run|OnlyRead) (?:\(Word (\d+)\)|NoWord)")
 
 
 def rows():

@@ -1,6 +1,6 @@
 """Holds README.md and docs/ against the crates and the programs. Each fault is a line; the last line says how many there are.
 
-Usage: check.py. It needs the programs `bench` and `session` in target/bin.
+Usage: check.py. It needs the programs `bench` and `session`, as `rt ci` or ./run builds them.
 """
 import glob
 import os
@@ -41,7 +41,8 @@ def cells(page, name):
 
 
 def crates():
-    return [line.partition(":")[0].strip() for line in text("crates.txt").splitlines() if line.strip() and not line.startswith("#")]
+    """The crates' names; behind that of a static library stands the word `staticlib`."""
+    return [line.partition(":")[0].split()[0] for line in text("crates.txt").splitlines() if line.strip() and not line.startswith("#")]
 
 
 def differs(what, told, right):
@@ -72,20 +73,20 @@ def outcomes():
     """Each number that the definitions give, the card's and the master's, in README's table."""
     numbers = []
     for path in ("crates/answers/specs/Answer.antt", "crates/card/specs/Outcome.antt", "crates/master/specs/Sent.antt", "crates/master_reply/specs/Reply.antt"):
-        numbers += map(int, re.findall(r"^(?:answerNumber|refusalNumber|outcomeNumber|sentNumber|replyNumber) [^=\n]*= (\d+)$", text(path), re.M))
+        numbers += map(int, re.findall(r"^(?:answer_number|refusal_number|outcome_number|sent_number|reply_number) [^=\n]*= (\d+)$", text(path), re.M))
     told = [int(row[0]) for row in cells("README.md", "Outcomes")]
     return differs("README.md, Outcomes", told, sorted(set(numbers)))
 
 
 def status():
-    """Each number that Inv St can tell: the faults, 14, and those of `statusOf`."""
+    """Each number that Inv St can tell: the faults, 14, and those of `status_of`."""
     events, tells = text("crates/drive/specs/Events.antt"), text("crates/drive/specs/Status.antt")
-    is_fault = re.search(r"\nisFault n = (.*)\n", events).group(1)
+    is_fault = re.search(r"\nis_fault n = (.*)\n", events).group(1)
     numbers = []
     for low, high in re.findall(r"both \(leb (\d+) n\) \(leb n (\d+)\)", is_fault):
         numbers += range(int(low), int(high) + 1)
-    numbers += [int(re.search(r"\nportFault \w = .*flagRaised \(only (\d+)\)", events).group(1))]
-    doing = re.search(r"\nstatusOf \w =\n(.*?)\n(?:\n|$)", tells, re.S).group(1)
+    numbers += [int(re.search(r"\nport_fault \w = .*flag_raised \(only (\d+)\)", events).group(1))]
+    doing = re.search(r"\nstatus_of \w =\n(.*?)\n(?:\n|$)", tells, re.S).group(1)
     for running, standing in re.findall(r"pick \(runs \w\) (\d+) (\d+)", doing):
         numbers += [int(running), int(standing)]
     numbers += [int(re.search(r" (\d+)\)\)$", doing).group(1))]
@@ -95,7 +96,7 @@ def status():
 
 def drive_status():
     """The bits of the definition's word, each with its mask, in README's table and in the header."""
-    word = re.search(r"\nstatusWord \w =\n(.*?)\n\n", text("crates/drive/specs/Status.antt"), re.S).group(1)
+    word = re.search(r"\nstatus_word \w =\n(.*?)\n\n", text("crates/drive/specs/Status.antt"), re.S).group(1)
     right = [(n, "%04Xh" % (1 << n)) for n in map(int, re.findall(r"\(bit (\d+) ", word))]
     told = [(int(row[0]), row[1]) for row in cells("README.md", "Drive Status")]
     listed = re.search(r"\nenum card_status \{\n(.*?)\n\};", text("include/linecard.h"), re.S).group(1)
@@ -107,7 +108,7 @@ def identity():
     """README's objects are those of the definition, and `line` is there who the masters of the test hear."""
     definition, masters = text("crates/identity/specs/Identity.antt"), text("tests/masters/steps.py")
     words = {"[]": "empty", "(revision i)": "the revision, 17 bytes", "(model i)": "the model, 8 bytes"}
-    for name in ("vendorName", "productName"):
+    for name in ("vendor_name", "product_name"):
         listed = re.search(r"^%s = (.*)$" % name, definition, re.M).group(1)
         words[name] = "`%s`" % bytes.fromhex("".join(re.findall(r"0x([0-9A-F]{2})", listed))).decode()
     right = ["%sh: %s" % (number, words.get(held, held)) for number, held in re.findall(r"^ +(?:∷ )?object 0x([0-9A-F]{2}) (.*)$", definition, re.M)]

@@ -5,7 +5,6 @@ A small master asks over a pty, and hears the reply before it asks again, so tha
 runs outside the system, for few requests and for twice as many; the difference is what the requests between cost, so that start and end are not counted. Every
 reply, and every line that ours prints, must be right. With --write both counts go to docs/SPEED.md; without, ours may be no more above libmodbus's than it is there."""
 import os
-import platform
 import re
 import select
 import shutil
@@ -111,16 +110,14 @@ def written(ours, theirs):
 
 
 def main():
-    if platform.machine() != "x86_64":
-        skip("callgrind runs our programs on x86-64 alone")
     for tool in ("gcc", "valgrind"):
         if shutil.which(tool) is None:
             skip("no " + tool)
     if not os.path.exists(os.path.join(HEADERS, "modbus.h")):
         skip("no libmodbus-dev")
-    program = os.path.join(TOP, "target", "bin", "line")
+    program = os.path.join(TOP, "crates", "line", "out", "line")
     if not os.path.exists(program):
-        fail("target/bin/line is not built (rt check line builds it)")
+        fail("crates/line/out/line is not built (rt ci builds every program, ./run line this one)")
     page = open(PAGE).read()
     at = PLACE.search(page)
     known = [int(number) for number in re.findall(r"\| (\d+) \|$", at.group(0) if at else "", re.M)]

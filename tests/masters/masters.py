@@ -4,7 +4,6 @@ Usage: masters.py PROGRAM, where `PROGRAM line ..` runs the program. Exit status
 A master that this machine does not have is skipped, with the reason.
 """
 import os
-import platform
 import re
 import shutil
 import signal
@@ -463,8 +462,8 @@ def timed(port, name, exchanges, wait):
 
 def clock_of_our_own(program):
     """By a clock that the test sets: to the tenth, over a year, back, and without any time."""
-    if platform.machine() != "x86_64" or not shutil.which("gcc"):
-        return "a clock of our own needs x86-64 and gcc"
+    if not shutil.which("gcc"):
+        return "a clock of our own needs gcc"
     with tempfile.TemporaryDirectory() as folder:
         library, clock = os.path.join(folder, "clock.so"), os.path.join(folder, "clock")
         source = os.path.join(os.path.dirname(os.path.abspath(__file__)), "clock.c")

@@ -6,7 +6,7 @@ import subprocess
 import tempfile
 import time
 
-PATIENCE = 30  # seconds until something that must happen is taken for lost; programs may run under an emulator
+PATIENCE = 30  # seconds until something that must happen is taken for lost
 
 
 def until(what, test):

@@ -1,12 +1,11 @@
 #!/usr/bin/env python3
 """Instructions a message of the card, through the library from C and in the program `speed`, beside a card by hand in C, over the same workloads.
 
-Each program runs few rounds and more rounds; the difference of the two counts is what the rounds between cost, so that set-up is not counted. On x86-64 valgrind's
-callgrind counts; elsewhere the kit's emulator writes a line for each instruction that it runs, and the lines are counted. Each program prints a sum over the
-outcome, the used bytes and the reply's length of every call: the sums must be the same. Then a read of Inv St and one of Drive Status are counted, through the library, for
-some flags: each must be told. With --write all are counted and the two tables go to docs/SPEED.md; without, ours alone are counted, and must not be above the numbers there."""
+Each program runs few rounds and more rounds under valgrind's callgrind; the difference of the two counts is what the rounds between cost, so that set-up is not
+counted. Each program prints a sum over the outcome, the used bytes and the reply's length of every call: the sums must be the same. Then a read of Inv St and one of
+Drive Status are counted, through the library, for some flags: each must be told. With --write all are counted and the two tables go to docs/SPEED.md; without, ours alone
+are counted, and must not be above the numbers there."""
 import os
-import platform
 import re
 import shutil
 import subprocess
@@ -23,8 +22,7 @@ MESSAGES = 1000
 # a flag, or 0 for none, and what Inv St and Drive Status tell of a fresh card then; and who asks for which
 STATUS = {0: (24, 0x0040), 1: (1, 0x0048), 13: (13, 0x0048), 23: (23, 0x0048)}
 READS = {"nfo": (0, "Inv St, NFO serial"), "rtu": (0, "Inv St, Modbus RTU"), "drive": (1, "Drive Status, Modbus RTU")}
-NATIVE = platform.machine() == "x86_64"
-COMPILER = "gcc" if NATIVE else "x86_64-linux-gnu-gcc"
+COMPILER = "gcc"
 MARGIN = 1.01  # another build of the same compiler may move a few instructions
 
 
@@ -36,13 +34,6 @@ def skip(reason):
 def fail(reason):
     print("speed: FAILED: " + reason)
     sys.exit(1)
-
-
-def kit():
-    """The emulator, its loader and its libraries, for processors that are no x86-64."""
-    home = os.path.dirname(os.path.dirname(subprocess.check_output(["rt", "doc"], text=True).strip()))
-    tools = os.path.join(home, "on", platform.machine(), "toolchain")
-    return os.path.join(tools, "bin", "qemu-x86_64"), os.path.join(tools, "lib")
 
 
 def build(folder, name, bit_step):
@@ -66,36 +57,19 @@ def host(folder, name):
     """A C host over the library, compiled as firmware is."""
     library = os.path.join(TOP, "target", "staticlib", "liblinecard.a")
     if not os.path.exists(library):
-        subprocess.check_call(["rt", "staticlib", "linecard"], cwd=TOP, stdout=subprocess.DEVNULL)
+        subprocess.check_call([os.path.join(TOP, "library")])
     program = os.path.join(folder, name)
     words = ["-std=c11", "-O2", "-Wall", "-Wextra", "-Werror", "-static", "-I", os.path.join(TOP, "include")]
     subprocess.check_call([COMPILER] + words + ["-o", program, os.path.join(HERE, name + ".c"), library])
     return program
 
 
-def command(program, ours):
-    """How a program is run here: directly, or by the emulator."""
-    if NATIVE:
-        return [program]
-    emulator, library = kit()
-    loader = [os.path.join(library, "ld-linux-x86-64.so.2"), "--library-path", library] if ours else []
-    return [emulator] + loader + [program]
-
-
 def count(folder, words, text):
     """What the program prints, and how many instructions it ran."""
-    if NATIVE:
-        out = os.path.join(folder, "callgrind." + words[-1])
-        said = subprocess.run(["valgrind", "--tool=callgrind", "--callgrind-out-file=" + out] + words, input=text, capture_output=True, text=True, check=True).stdout
-        total = re.search(r"^(?:summary|totals): (\d+)", open(out).read(), re.M)
-        return said, int(total.group(1))
-    pipe = os.path.join(folder, "trace." + words[-1])
-    if not os.path.exists(pipe):
-        os.mkfifo(pipe)
-    lines = subprocess.Popen("wc -l < '%s'" % pipe, shell=True, stdout=subprocess.PIPE, text=True)
-    traced = words[:1] + ["-one-insn-per-tb", "-d", "exec,nochain", "-D", pipe] + words[1:]
-    said = subprocess.run(traced, input=text, capture_output=True, text=True, check=True).stdout
-    return said, int(lines.communicate()[0])
+    out = os.path.join(folder, "callgrind." + words[-1])
+    said = subprocess.run(["valgrind", "--tool=callgrind", "--callgrind-out-file=" + out] + words, input=text, capture_output=True, text=True, check=True).stdout
+    total = re.search(r"^(?:summary|totals): (\d+)", open(out).read(), re.M)
+    return said, int(total.group(1))
 
 
 def a_message(folder, words, arguments, text):
@@ -107,19 +81,19 @@ def a_message(folder, words, arguments, text):
 
 
 def table(folder, write, known):
-    ours_program = os.path.join(TOP, "target", "bin", "speed")
+    ours_program = os.path.join(TOP, "crates", "speed", "out", "speed")
     if not os.path.exists(ours_program):
-        fail("target/bin/speed is not built (rt check speed builds it)")
-    library = command(host(folder, "host"), False)
+        fail("crates/speed/out/speed is not built (rt ci builds every program, ./run speed this one)")
+    library = [host(folder, "host")]
     theirs = {"nfo": build(folder, "card", False), "ascii": None, "rtu": build(folder, "card_bits", True)}
     theirs["ascii"] = theirs["nfo"]
     rows = []
     for protocol in NAMES:
-        reference = command(theirs[protocol], False)
+        reference = [theirs[protocol]]
         workload = subprocess.run(reference + [protocol, "dump"], capture_output=True, text=True, check=True).stdout
         told = [subprocess.run(reference + [protocol, str(rounds)], capture_output=True, text=True, check=True).stdout for rounds in ROUNDS]
         counts = []
-        for words in (library, command(ours_program, True)):
+        for words in (library, [ours_program]):
             ours, said = a_message(folder, words, [protocol], workload)
             if said != told:
                 fail("%s: ours prints %r, the C card %r" % (protocol, said, told))
@@ -133,7 +107,7 @@ def table(folder, write, known):
 
 def status(folder):
     """Instructions a read of Inv St, on NFO serial and on Modbus RTU, and of Drive Status, for each flag."""
-    program = command(host(folder, "status"), False)
+    program = [host(folder, "status")]
     rows = []
     for flag, numbers in STATUS.items():
         counts = []
@@ -183,8 +157,8 @@ def not_above(what, now, limit):
 
 def main():
     if shutil.which(COMPILER) is None:
-        skip("no C compiler for x86-64 (%s)" % COMPILER)
-    if NATIVE and shutil.which("valgrind") is None:
+        skip("no C compiler (%s)" % COMPILER)
+    if shutil.which("valgrind") is None:
         skip("no valgrind")
     write = "--write" in sys.argv[1:]
     messages, reads = part("the table")[1], part("status")[1]
