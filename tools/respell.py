@@ -15,6 +15,8 @@ import subprocess
 TOKEN = re.compile(r"[^\s(){}\[\].,;:\"`|=←→λ]+")
 DEFINES = re.compile(r"^\s*(?:(?:pub|abbrev|unfoldable|record|data|ruleset)\s+)*([^\s:(){}.,=]+)\s*(?::(?!=)|\(|\{|=)")
 KEPT = {"f-Nom"}
+# a definition of this name stands in specs/, beside lemmas `up-to`
+PLAIN = {"up_to"}
 FUNCTION_FILES = ("Proof.antt", "Invariants.antt", "Answers.antt")
 PAGES = ("README.md", "docs")
 
@@ -66,7 +68,7 @@ def renaming():
     for to, names in groups.items():
         together = len(names) > 1 and any(len(names & t) > 1 for t in tokens.values())
         for name in names:
-            word = re.search("[A-Z]", name) is not None
+            word = name in PLAIN or re.search("[A-Z]", name) is not None
             new[name] = to if word or not together else to + "_lem"
     return {n: t for n, t in new.items() if n != t}
 
@@ -94,7 +96,13 @@ def in_code(text, new, of_function):
 
 
 def in_backticks(text, new):
-    return re.sub(r"`[^`\n]*`", lambda m: TOKEN.sub(lambda t: new.get(t.group(0), t.group(0)), m.group(0)), text)
+    """The names between backticks; behind `::` stands a function of the program, which is no lemma."""
+
+    def spelt(m):
+        to = new.get(m.group(0), m.group(0))
+        return to.removesuffix("_lem") if m.string[: m.start()].endswith("::") else to
+
+    return re.sub(r"`[^`\n]*`", lambda m: TOKEN.sub(spelt, m.group(0)), text)
 
 
 def in_source(text, new):
@@ -115,6 +123,23 @@ def in_source(text, new):
             ghost = ghost and ";" not in l
         else:
             out.append(l)
+    return "\n".join(out)
+
+
+def lent(text):
+    """`x.old` and `x.new` of a `&mut` parameter, `x.now` of a `&`, where a clause still says `x.entry.now` or `x.exit.now`."""
+    out, signature = [], ""
+    for l in text.split("\n"):
+        if re.search(r"\bfn \w+", l) and not l.lstrip().startswith("//"):
+            signature = ""
+        if not l.lstrip().startswith(("ensures", "requires", "ghost")):
+            signature += " " + l
+
+        def by_kind(m):
+            mut = re.search(r"\b%s\s*:\s*&(?:'\w+\s+)?mut\b" % m.group(1), signature)
+            return m.group(1) + ((".old" if m.group(2) == "entry" else ".new") if mut else ".now")
+
+        out.append(re.sub(r"\b(\w+)\.(entry|exit)\.now\b", by_kind, l))
     return "\n".join(out)
 
 
@@ -173,7 +198,7 @@ def main():
     for path in walk("crates", ".antt"):
         write(path, in_code(read(path), new, os.path.basename(path) in FUNCTION_FILES))
     for path in walk("crates", ".rt"):
-        write(path, in_source(read(path), new))
+        write(path, lent(in_source(read(path), new)))
     for path in walk("crates", ".edit"):
         write(path, in_edit(read(path), new | port))
     for path in pages:
