@@ -1,5 +1,4 @@
 -- `speed::round` is safe and ends: the places stay within the workload, and each call uses a byte at least. Assumes nothing.
-use Rattle.std.proofs.Common.{◌-◌}
 use Rattle.speed.proofs.Laws.{piece_less}
 use Rattle.speed.proofs.rounds.round.Goals as goal
 
