@@ -1,11 +1,9 @@
 -- The limit: behind 508 digits only the two of the LRC have room. The bytes add to 0 exactly where the last two digits are these, in either letters.
 -- Assumes nothing.
-use Rattle.std.proofs.Common.{◌≡◌, ℕ, suc, ◌/◌, ◌%◌, true, eqb, List, [], ◌∷◌, ◌++◌, length, get_or, take, sym, refl, ap, ◌∙◌, arith, length-take-le, take_all, take-suc, eq-eqb, eqb-true}
+use Rattle.std.proofs.Common.{◌≡◌, ℕ, suc, ◌/◌, ◌%◌, true, eqb, List, [], ◌∷◌, ◌++◌, length, get_or, take, sym, refl, ap, ◌∙◌, arith, length-take-le, take_all, take-suc, eq-eqb, eqb-true, Option, Some}
 use lib.Seq.{append_snoc}
 use Rattle.base.specs.Choice.{both}
 use Rattle.base.proofs.Tests.{both_out, both_in, same_test}
-use Rattle.hex_pairs.specs.declared.Pair.{Pair}
-use Rattle.hex_pairs.specs.declared.Pair.TheVariants.{Byte}
 use Rattle.hex_pairs.specs.Hex.{is_hex, all_hex, digit_of, capital_of, pair_value, spelt, bytes_of}
 use Rattle.hex_pairs.proofs.RoundTrip.{Whole, all_append, hex_whole, bytes_append, hex_pair, pair_below, pair_digits, digits_pair}
 use Rattle.hex_pairs.proofs.Capitals.{pair_of_capitals}
@@ -45,9 +43,9 @@ module _ (d : List ℕ) (b : ℕ) (hex : all_hex d ≡ true) (n : length d ≡ 5
       ∙ ap (λ (q : List ℕ). q ++ bytes_of (x ∷ b ∷ [])) body
 
   -- the last pair spells y
-  last : (y : ℕ) → pair_value x b ≡ Byte y → bytes_of (d ++ b ∷ []) ≡ bytes_of d ++ y ∷ []
+  last : (y : ℕ) → pair_value x b ≡ Some y → bytes_of (d ++ b ∷ []) ≡ bytes_of d ++ y ∷ []
   unfolding bytes_of
-  last y e = all ∙ ap (λ (p : Pair). bytes_of d ++ spelt p []) e
+  last y e = all ∙ ap (λ (p : Option ℕ). bytes_of d ++ spelt p []) e
 
   pub last_pair : adds_to_zero (bytes_of (d ++ b ∷ []))
       ≡ both (eqb (capital_of (get_or d 508 0)) (digit_of (lrc_of (bytes_of d) / 16))) (eqb (capital_of b) (digit_of (lrc_of (bytes_of d) % 16)))
@@ -57,7 +55,7 @@ module _ (d : List ℕ) (b : ℕ) (hex : all_hex d ≡ true) (n : length d ≡ 5
       lrc : ℕ
       lrc = lrc_of (bytes_of d)
 
-      y : (v : ℕ) × (pair_value x b ≡ Byte v)
+      y : (v : ℕ) × (pair_value x b ≡ Some v)
       y = hex_pair x b (both_out (is_hex x) true parts.1).0 digit
 
       there : adds_to_zero (bytes_of (d ++ b ∷ [])) ≡ true → both (eqb (capital_of x) (digit_of (lrc / 16))) (eqb (capital_of b) (digit_of (lrc % 16))) ≡ true
@@ -71,5 +69,5 @@ module _ (d : List ℕ) (b : ℕ) (hex : all_hex d ≡ true) (n : length d ≡ 5
           let h = both_out (eqb (capital_of x) (digit_of (lrc / 16))) (eqb (capital_of b) (digit_of (lrc % 16))) e in
           let high : capital_of x ≡ digit_of (lrc / 16) = eqb-true (capital_of x) _ h.0 in
           let low : capital_of b ≡ digit_of (lrc % 16) = eqb-true (capital_of b) _ h.1 in
-          let is : pair_value x b ≡ Byte lrc = sym (pair_of_capitals x b) ∙ (λ i. pair_value (high i) (low i)) ∙ pair_digits lrc (lrc_below (bytes_of d)) in
+          let is : pair_value x b ≡ Some lrc = sym (pair_of_capitals x b) ∙ (λ i. pair_value (high i) (low i)) ∙ pair_digits lrc (lrc_below (bytes_of d)) in
           ap adds_to_zero (last lrc is) ∙ adds_lrc (bytes_of d)

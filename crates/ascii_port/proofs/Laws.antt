@@ -1,4 +1,5 @@
 -- A call on bytes of Modbus ASCII, case by case. Assumes nothing.
+use Rattle.std.proofs.Common.{Option, Some, None}
 use mathlib.Core.Path.{◌≡◌, refl, ap, ◌∙◌}
 use mathlib.Core.List.{List}
 use Prim.Native.Nat.{ℕ, ◌-◌, ◌≤◌, ◌<◌}
@@ -16,8 +17,6 @@ use Rattle.port.specs.Port.{Numbers}
 use Rattle.drive.specs.Plant.{Plant}
 use Rattle.modbus_service.specs.Reply.{exchanged_in, exchanged}
 use Rattle.modbus_service.specs.declared.Exchange.{Exchange}
-use Rattle.modbus_service.specs.declared.Reply.{Reply}
-use Rattle.modbus_service.specs.declared.Reply.TheVariants.{Nothing, Data}
 use Rattle.card.specs.State.{card_of}
 use Rattle.card.specs.declared.state.Card.{Card}
 use Rattle.card.specs.declared.outcome.Outcome.TheVariants as Outcomes
@@ -27,6 +26,7 @@ use Rattle.turn.specs.Stream.{taken}
 use Rattle.turn.specs.declared.Turn.{Turn}
 use Rattle.turn.proofs.Laws.{Does, after_in, streamed_used, streamed_uses, streamed_short}
 use Rattle.ascii_port.specs.Receive.{exchange_on, reply_text, answered_by, ascii_stream, ascii_received}
+use Rattle.modbus.specs.declared.replies.Answer as Units
 
 -- ---- a message's bytes are served: the plant and the port are `p'` and `q'` then, and the port `q''` after the message
 module _ (held : List ℕ) (q q' q'' : Numbers) (p p' : Plant) (i : Identity) (scan : Scanned) (message unit : List ℕ) (address : ℕ) (e : Exchange) (n : ℕ) (out before : List ℕ)
@@ -54,9 +54,9 @@ unfolding held
 takes array q p i scan message r out before e d = rw (← e) d
 
 -- ---- what a caller may count on: the bytes used are there, one at least is used, and a reply has 151 bytes at most
-text_short : (i : Identity) (address : ℕ) (said : Reply) → length (reply_text i address said) ≤ 151
-text_short i address Nothing = omega arith
-text_short i address (Data answer) = Replies.ascii_short address i answer
+text_short : (i : Identity) (address : ℕ) (said : Option Units.Answer) → length (reply_text i address said) ≤ 151
+text_short i address None = omega arith
+text_short i address (Some answer) = Replies.ascii_short address i answer
 
 module _ (c : Card) (bytes : List ℕ) (room : ℕ) where
   pub ascii_used : (ascii_received c bytes room).used ≤ length bytes

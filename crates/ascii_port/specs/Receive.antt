@@ -1,5 +1,5 @@
 -- A call on bytes of Modbus ASCII: the stream call of its messages. Assumes nothing.
-use Rattle.std.specs.Prelude.{List, ℕ}
+use Rattle.std.specs.Prelude.{List, ℕ, Option}
 use Rattle.base.specs.Buffers.{ascii_least}
 use Rattle.identity.specs.Identity.{Identity}
 use Rattle.pending.specs.Held.{held}
@@ -7,17 +7,17 @@ use Rattle.pending.specs.Scanning.{Scan}
 use Rattle.ascii.specs.Ascii.{bytes_in, ascii_of, address_among, unit_among}
 use Rattle.ascii_scan.specs.Scan.{feeding}
 use Rattle.modbus_service.specs.Reply.{sent_by, Exchanged, exchanged}
-use Rattle.modbus_service.specs.declared.Reply.{Reply}
 use Rattle.card.specs.declared.state.Card.{Card}
 use Rattle.turn.specs.Turn.{Received, answered}
 use Rattle.turn.specs.Stream.{Stream, streamed}
+use Rattle.modbus.specs.declared.replies.Answer as Units
 
 -- what a message comes to, on this card: its first byte is the address, its last the LRC, and between them stands the data unit
 abbrev pub exchange_on : Card → List ℕ → Exchanged
 exchange_on c message = exchanged c.plant c.port.numbers (address_among message) (unit_among message)
 
 -- the reply's text, from the request's address, of a card with this identity
-abbrev pub reply_text : Identity → ℕ → Reply → List ℕ
+abbrev pub reply_text : Identity → ℕ → Option Units.Answer → List ℕ
 reply_text = sent_by ascii_of
 
 abbrev pub reply_on : Card → List ℕ → List ℕ

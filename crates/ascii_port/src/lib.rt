@@ -14,7 +14,7 @@ use base::ASCII_REPLY;
 use card::Outcome;
 use drive::Plant;
 use identity::Identity;
-use modbus_service::Reply;
+use modbus::Answer;
 use pending::Scanned;
 use port::Numbers;
 use turn::{Turned, after_message, nothing_taken, short_buffer};
@@ -91,13 +91,13 @@ fn answer(
 }
 
 // Puts the reply's text, where there is a reply.
-fn put(address: u8, said: Reply, identity: &Identity, reply: &mut [u8]) -> usize
+fn put(address: u8, said: Option<Answer>, identity: &Identity, reply: &mut [u8]) -> usize
     requires { ascii_least ≤ length reply.old }
     ensures count { result ≡ length (reply_text identity.now address said) }
     ensures lent { reply.new ≡ front (reply_text identity.now address said) reply.old }
 {
     match said {
-        Reply::Nothing => 0,
-        Reply::Data(answer) => ascii::put_ascii(address, answer, identity, reply),
+        None => 0,
+        Some(answer) => ascii::put_ascii(address, answer, identity, reply),
     }
 }

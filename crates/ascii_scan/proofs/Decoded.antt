@@ -1,11 +1,9 @@
 -- What the code decodes: the bytes that the pairs behind the first byte held spell. Assumes nothing.
-use Rattle.std.proofs.Common.{◌≡◌, ℕ, suc, ◌+◌, ◌-◌, ◌*◌, ◌/◌, ◌<◌, ◌≤◌, min, Bool, true, false, ltb, List, [], ◌∷◌, length, get_or, take, drop, set, sym, refl, ap, ◌∙◌, arith, length-drop, length-take, take_all, ltb-false, ltb-true}
+use Rattle.std.proofs.Common.{◌≡◌, ℕ, suc, ◌+◌, ◌-◌, ◌*◌, ◌/◌, ◌<◌, ◌≤◌, min, Bool, true, false, ltb, List, [], ◌∷◌, length, get_or, take, drop, set, sym, refl, ap, ◌∙◌, arith, length-drop, length-take, take_all, ltb-false, ltb-true, Option, Some, None}
 use lib.Seq.{sets}
 use Rattle.base.specs.Buffers.{front}
 use Rattle.base.proofs.Sets.{sets_front, front_none}
 use Rattle.hex_pairs.specs.Hex.{pair_value, bytes_of}
-use Rattle.hex_pairs.specs.declared.Pair.{Pair}
-use Rattle.hex_pairs.specs.declared.Pair.TheVariants.{Byte, NoByte}
 use Rattle.hex_pairs.proofs.Laws.{Decoding, decode_again, spoilt, no_pair}
 use Rattle.hex_pairs.proofs.RoundTrip.{length_bytes}
 use Rattle.ascii.specs.Ascii.{bytes_in, unit_among}
@@ -42,11 +40,11 @@ module _ (l : List ℕ) (k n : ℕ) (size : length l ≡ 512) (e : k ≡ min n 5
 
 -- ---- `spell`: the pair at place i, of the pairs of a text
 module _ (text : List ℕ) (i : ℕ) where
-  pub spell_again : (o₀ o : List ℕ) (b : ℕ) (p : Pair) → Decoding text o₀ o i → i < length text / 2 → p ≡ pair_value (get_or text (2 * i) 0) (get_or text (2 * i + 1) 0) → p ≡ Byte b
+  pub spell_again : (o₀ o : List ℕ) (b : ℕ) (p : Option ℕ) → Decoding text o₀ o i → i < length text / 2 → p ≡ pair_value (get_or text (2 * i) 0) (get_or text (2 * i + 1) 0) → p ≡ Some b
       → Decoding text o₀ (set o i b) (i + 1)
   spell_again o₀ o b p d h q e = decode_again text o₀ o (set o i b) i b p d (omega arith) q e refl
 
-  pub spell_spoilt : (p : Pair) → i < length text / 2 → p ≡ pair_value (get_or text (2 * i) 0) (get_or text (2 * i + 1) 0) → p ≡ NoByte → bytes_of (drop (2 * i) text) ≡ []
+  pub spell_spoilt : (p : Option ℕ) → i < length text / 2 → p ≡ pair_value (get_or text (2 * i) 0) (get_or text (2 * i + 1) 0) → p ≡ None → bytes_of (drop (2 * i) text) ≡ []
   spell_spoilt p h q e = spoilt text i p (omega arith) q e
 
   pub spell_done : length text / 2 ≤ i → bytes_of (drop (2 * i) text) ≡ []

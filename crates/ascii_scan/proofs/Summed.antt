@@ -1,12 +1,10 @@
 -- What the code's loop, tests and calls show of the pairs pending. Assumes nothing.
-use Rattle.std.proofs.Common.{◌≡◌, ℕ, suc, ◌+◌, ◌-◌, ◌*◌, ◌%◌, ◌<◌, ◌≤◌, true, false, eqb, List, [], ◌∷◌, length, get_or, take, drop, sym, refl, ap, ◌∙◌, arith, length-drop, length-take, w64, Fits, eq-eqb, eqb-true}
+use Rattle.std.proofs.Common.{◌≡◌, ℕ, suc, ◌+◌, ◌-◌, ◌*◌, ◌%◌, ◌<◌, ◌≤◌, true, false, eqb, List, [], ◌∷◌, length, get_or, take, drop, sym, refl, ap, ◌∙◌, arith, length-drop, length-take, w64, Fits, eq-eqb, eqb-true, Option, Some}
 use mathlib.Core.List.{foldl}
 use lib.Seq.{take-nil}
 use Rattle.base.specs.Choice.{both}
 use Rattle.base.proofs.Tests.{both_out, is_false}
 use Rattle.hex_pairs.specs.Hex.{pair_value, spelt, bytes_of}
-use Rattle.hex_pairs.specs.declared.Pair.{Pair}
-use Rattle.hex_pairs.specs.declared.Pair.TheVariants.{Byte}
 use Rattle.hex_pairs.proofs.Laws.{next_pair}
 use Rattle.hex_pairs.proofs.RoundTrip.{length_bytes}
 use Rattle.checks.specs.Lrc.{add_byte, sum_of, adds_to_zero, lrc_of}
@@ -28,11 +26,11 @@ unfolding sum_of
 sum_starts text = record { passed = omega arith; count = omega arith; left = refl }
 
 -- the next pair spells a byte
-pub sum_again : (text : List ℕ) (sum i b more : ℕ) (p : Pair) → Summing text sum i → 2 * i + 1 < length text
-    → p ≡ pair_value (get_or text (2 * i) 0) (get_or text (2 * i + 1) 0) → p ≡ Byte b → more ≡ add_byte sum b → Summing text more (i + 1)
+pub sum_again : (text : List ℕ) (sum i b more : ℕ) (p : Option ℕ) → Summing text sum i → 2 * i + 1 < length text
+    → p ≡ pair_value (get_or text (2 * i) 0) (get_or text (2 * i + 1) 0) → p ≡ Some b → more ≡ add_byte sum b → Summing text more (i + 1)
 sum_again text sum i b more p h l q e s =
     let one : bytes_of (drop (2 * i) text) ≡ b ∷ bytes_of (drop (2 * (i + 1)) text) =
-    next_pair text i l ∙ ap (λ (x : Pair). spelt x (bytes_of (drop (2 * (i + 1)) text))) (sym q ∙ e) in
+    next_pair text i l ∙ ap (λ (x : Option ℕ). spelt x (bytes_of (drop (2 * (i + 1)) text))) (sym q ∙ e) in
     record {
       passed = omega arith;
       count = omega (arith, ap length one, h.count);

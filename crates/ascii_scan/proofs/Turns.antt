@@ -1,8 +1,6 @@
 -- What the code's tests and calls show of one byte, and of what is pending after it. Assumes nothing.
-use Rattle.std.proofs.Common.{◌≡◌, ℕ, ◌+◌, ◌-◌, ◌/◌, ◌%◌, ◌<◌, ◌≤◌, min, Bool, true, false, eqb, List, length, get_or, take, drop, sym, refl, ap, ◌∙◌, subst, add-zero, arith, length-drop, length-take, take_all, drop-drop, eq-eqb, ne_eqb}
+use Rattle.std.proofs.Common.{◌≡◌, ℕ, ◌+◌, ◌-◌, ◌/◌, ◌%◌, ◌<◌, ◌≤◌, min, Bool, true, false, eqb, List, length, get_or, take, drop, sym, refl, ap, ◌∙◌, subst, add-zero, arith, length-drop, length-take, take_all, drop-drop, eq-eqb, ne_eqb, Option, Some, None}
 use Rattle.base.specs.Choice.{pick, both}
-use Rattle.hex_pairs.specs.declared.Digit.{Digit}
-use Rattle.hex_pairs.specs.declared.Digit.TheVariants.{Value, NotHex}
 use Rattle.hex_pairs.specs.Hex.{is_hex, digit_value, digit_of, capital_of}
 use Rattle.hex_pairs.proofs.RoundTrip.{is_value, hex_is_value, value_hex, cr_not_hex}
 use Rattle.checks.specs.Lrc.{lrc_of}
@@ -15,11 +13,11 @@ use Rattle.ascii_scan.specs.Scan.{ended, digit_fits, cr_fits, goes_on, again, en
 use Rattle.ascii_scan.proofs.Summed.{cr_under}
 
 -- ---- a hex digit
-module _ (b : ℕ) (d : Digit) (q : d ≡ digit_value b) where
-  pub is_digit : (n : ℕ) → d ≡ Value n → true ≡ is_hex b
+module _ (b : ℕ) (d : Option ℕ) (q : d ≡ digit_value b) where
+  pub is_digit : (n : ℕ) → d ≡ Some n → true ≡ is_hex b
   is_digit n e = sym (value_hex b n (sym q ∙ e))
 
-  pub no_digit : d ≡ NotHex → false ≡ is_hex b
+  pub no_digit : d ≡ None → false ≡ is_hex b
   no_digit e = sym (hex_is_value b ∙ ap is_value (sym q ∙ e))
 
 -- ---- the last byte pending

@@ -6,7 +6,6 @@ ghost use Rattle.hex_pairs.specs.Hex.{bytes_of};
 ghost use Rattle.ascii.specs.Ascii.{bytes_in, unit_among};
 
 use crate::scanning::count_held;
-use hex_pairs::Pair;
 
 // Puts the bytes that the pairs of the message in the first `n` bytes of `held` spell at the start of `out`, the LRC last, and tells how many there are. Other bytes held are read
 // the same way, from the second on and up to the first pair that spells no byte.
@@ -32,7 +31,7 @@ fn spell(digits: &[u8], out: &mut [u8]) -> usize
     let pairs = digits.len() / 2;
     let mut i: usize = 0;
     while i < pairs {
-        let Pair::Byte(b) = hex_pairs::pair_value(digits[2 * i], digits[2 * i + 1]) else {
+        let Some(b) = hex_pairs::pair_value(digits[2 * i], digits[2 * i + 1]) else {
             return i;
         };
         out[i] = b;

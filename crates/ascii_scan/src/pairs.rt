@@ -6,8 +6,6 @@ ghost use Rattle.ascii.specs.Ascii.{bytes_in};
 ghost use Rattle.ascii_scan.specs.Scan.{digit_fits, cr_fits};
 ghost use Rattle.ascii_scan.specs.Pairs.{pairs_of};
 
-use hex_pairs::Pair;
-
 // How many bytes pairs of digits spell, and these added modulo 256.
 #[derive(Clone, Copy)]
 pub(crate) struct Pairs {
@@ -76,7 +74,7 @@ fn add_pairs(digits: &[u8]) -> Pairs
     let mut sum: u8 = 0;
     let mut i: usize = 0;
     while 2 * i + 1 < digits.len() {
-        let Pair::Byte(b) = hex_pairs::pair_value(digits[2 * i], digits[2 * i + 1]) else {
+        let Some(b) = hex_pairs::pair_value(digits[2 * i], digits[2 * i + 1]) else {
             return Pairs { count: i, sum };
         };
         sum = std::num::wrapping_add_u8(sum, b);

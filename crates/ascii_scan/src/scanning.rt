@@ -8,7 +8,6 @@ ghost use Rattle.ascii_scan.specs.Scan.{ended, goes_on, again, feeding};
 
 use crate::digits::push_digits;
 use crate::pairs::{cr_fits, digit_fits};
-use hex_pairs::Digit;
 use pending::{Scanned, begin_with, push};
 
 // Scans for the first message: uses the bytes up to its end, or all. A byte is tested once, at its place. The bytes pending are the first `len` of
@@ -152,7 +151,7 @@ fn goes_on(held: &[u8; 512], n: usize, b: u8) -> bool
 fn is_hex(b: u8) -> bool
     ensures { result ≡ is_hex b }
 {
-    let Digit::Value(_) = hex_pairs::digit_value(b) else {
+    let Some(_) = hex_pairs::digit_value(b) else {
         return false;
     };
     true

@@ -1,8 +1,6 @@
 // What a line of up to four words says: a command with its numbers, and beside it the bytes that HEX spells.
-use bench_words::{Number, Short, Spelling};
 use card::Protocol;
 use identity::LENGTH;
-use protocols::Named;
 
 // A command. Where it has a HEX, its last number tells how many bytes that spells; the first of `Call` is the buffer's size. The HEX of `StartAs` is an identity.
 #[derive(Clone, Copy)]
@@ -16,7 +14,6 @@ pub(crate) enum Command {
     State,
     RegisterData(usize),
     Hear(Protocol, usize),
-    NotACommand,
 }
 
 // What the host tells the card. A measured number is a word, a negative one in two's complement.
@@ -33,90 +30,90 @@ pub(crate) enum Event {
 }
 
 // `restart`, `parity`, `state`
-fn alone(name: &[u8]) -> Command {
+fn alone(name: &[u8]) -> Option<Command> {
     if check::same(name, b"restart") {
-        return Command::Restart;
+        return Some(Command::Restart);
     }
     if check::same(name, b"parity") {
-        return Command::Host(Event::Parity);
+        return Some(Command::Host(Event::Parity));
     }
     if check::same(name, b"state") {
-        return Command::State;
+        return Some(Command::State);
     }
-    Command::NotACommand
+    None
 }
 
 // `start P`
-fn start(word: &[u8]) -> Command {
-    let Named::Protocol(protocol) = protocols::protocol_of(word) else {
-        return Command::NotACommand;
+fn start(word: &[u8]) -> Option<Command> {
+    let Some(protocol) = protocols::protocol_of(word) else {
+        return None;
     };
-    Command::Start(protocol)
+    Some(Command::Start(protocol))
 }
 
 // `start P identity HEX`: HEX spells an identity
-fn start_as(word: &[u8], option: &[u8], hex: &[u8], bytes: &mut [u8]) -> Command {
-    let Named::Protocol(protocol) = protocols::protocol_of(word) else {
-        return Command::NotACommand;
+fn start_as(word: &[u8], option: &[u8], hex: &[u8], bytes: &mut [u8]) -> Option<Command> {
+    let Some(protocol) = protocols::protocol_of(word) else {
+        return None;
     };
-    let Spelling::Bytes(n) = bench_words::spelt(hex, bytes) else {
-        return Command::NotACommand;
+    let Some(n) = bench_words::spelt(hex, bytes) else {
+        return None;
     };
     if n != LENGTH {
-        return Command::NotACommand;
+        return None;
     }
     if check::same(option, b"identity") {
-        return Command::StartAs(protocol);
+        return Some(Command::StartAs(protocol));
     }
-    Command::NotACommand
+    None
 }
 
 // `din1 0`, `din1 1`
-fn din1(level: &[u8]) -> Command {
-    let Number::Word(n) = bench_words::between(0, 1, level) else {
-        return Command::NotACommand;
+fn din1(level: &[u8]) -> Option<Command> {
+    let Some(n) = bench_words::between(0, 1, level) else {
+        return None;
     };
-    Command::Host(Event::Din1(n == 1))
+    Some(Command::Host(Event::Din1(n == 1)))
 }
 
 // `frq N`, N from -32768 to 32767
-fn frq(number: &[u8]) -> Command {
-    let Short::Word(n) = bench_words::between16(32768, 32767, number) else {
-        return Command::NotACommand;
+fn frq(number: &[u8]) -> Option<Command> {
+    let Some(n) = bench_words::between16(32768, 32767, number) else {
+        return None;
     };
-    Command::Host(Event::Frq(n))
+    Some(Command::Host(Event::Frq(n)))
 }
 
 // `irms N`, N from -2147483648 to 2147483647
-fn irms(number: &[u8]) -> Command {
-    let Number::Word(n) = bench_words::between(2147483648, 2147483647, number) else {
-        return Command::NotACommand;
+fn irms(number: &[u8]) -> Option<Command> {
+    let Some(n) = bench_words::between(2147483648, 2147483647, number) else {
+        return None;
     };
-    Command::Host(Event::Irms(n))
+    Some(Command::Host(Event::Irms(n)))
 }
 
 // `tick N`, `raise N`, `end N`, `optime N`: any number of 32 bits
-fn counted(name: &[u8], number: &[u8]) -> Command {
-    let Number::Word(n) = bench_words::between(0, u32::MAX, number) else {
-        return Command::NotACommand;
+fn counted(name: &[u8], number: &[u8]) -> Option<Command> {
+    let Some(n) = bench_words::between(0, u32::MAX, number) else {
+        return None;
     };
     if check::same(name, b"tick") {
-        return Command::Host(Event::Tick(n));
+        return Some(Command::Host(Event::Tick(n)));
     }
     if check::same(name, b"raise") {
-        return Command::Host(Event::Raise(n));
+        return Some(Command::Host(Event::Raise(n)));
     }
     if check::same(name, b"end") {
-        return Command::Host(Event::End(n));
+        return Some(Command::Host(Event::End(n)));
     }
     if check::same(name, b"optime") {
-        return Command::Host(Event::OpTime(n));
+        return Some(Command::Host(Event::OpTime(n)));
     }
-    Command::NotACommand
+    None
 }
 
 // `start P`, `din1 N` and the others without a HEX
-fn with_number(name: &[u8], word: &[u8]) -> Command {
+fn with_number(name: &[u8], word: &[u8]) -> Option<Command> {
     if check::same(name, b"start") {
         return start(word);
     }
@@ -133,60 +130,60 @@ fn with_number(name: &[u8], word: &[u8]) -> Command {
 }
 
 // A name with one word after it, `bytes HEX`, `regdata HEX`, `nreply HEX` among them.
-fn with_one(name: &[u8], word: &[u8], bytes: &mut [u8]) -> Command {
-    let Spelling::Bytes(n) = bench_words::spelt(word, bytes) else {
+fn with_one(name: &[u8], word: &[u8], bytes: &mut [u8]) -> Option<Command> {
+    let Some(n) = bench_words::spelt(word, bytes) else {
         return with_number(name, word);
     };
     if check::same(name, b"bytes") {
-        return Command::Bytes(n);
+        return Some(Command::Bytes(n));
     }
     if check::same(name, b"regdata") {
-        return Command::RegisterData(n);
+        return Some(Command::RegisterData(n));
     }
     if check::same(name, b"nreply") {
-        return Command::Hear(Protocol::Nfo, n);
+        return Some(Command::Hear(Protocol::Nfo, n));
     }
     with_number(name, word)
 }
 
 // `call B HEX`
-fn call(size: &[u8], word: &[u8], bytes: &mut [u8]) -> Command {
-    let Number::Word(b) = bench_words::between(0, u32::MAX, size) else {
-        return Command::NotACommand;
+fn call(size: &[u8], word: &[u8], bytes: &mut [u8]) -> Option<Command> {
+    let Some(b) = bench_words::between(0, u32::MAX, size) else {
+        return None;
     };
-    let Spelling::Bytes(n) = bench_words::spelt(word, bytes) else {
-        return Command::NotACommand;
+    let Some(n) = bench_words::spelt(word, bytes) else {
+        return None;
     };
-    Command::Call(b as usize, n)
+    Some(Command::Call(b as usize, n))
 }
 
 // `mreply P HEX`
-fn modbus_reply(protocol: &[u8], word: &[u8], bytes: &mut [u8]) -> Command {
-    let Spelling::Bytes(n) = bench_words::spelt(word, bytes) else {
-        return Command::NotACommand;
+fn modbus_reply(protocol: &[u8], word: &[u8], bytes: &mut [u8]) -> Option<Command> {
+    let Some(n) = bench_words::spelt(word, bytes) else {
+        return None;
     };
     if check::same(protocol, b"rtu") {
-        return Command::Hear(Protocol::Rtu, n);
+        return Some(Command::Hear(Protocol::Rtu, n));
     }
     if check::same(protocol, b"ascii") {
-        return Command::Hear(Protocol::Ascii, n);
+        return Some(Command::Hear(Protocol::Ascii, n));
     }
-    Command::NotACommand
+    None
 }
 
 // A name with two words after it.
-fn with_two(name: &[u8], first: &[u8], word: &[u8], bytes: &mut [u8]) -> Command {
+fn with_two(name: &[u8], first: &[u8], word: &[u8], bytes: &mut [u8]) -> Option<Command> {
     if check::same(name, b"call") {
         return call(first, word, bytes);
     }
     if check::same(name, b"mreply") {
         return modbus_reply(first, word, bytes);
     }
-    Command::NotACommand
+    None
 }
 
 // A name with three words after it.
-fn with_three(line: &[u8], bytes: &mut [u8]) -> Command {
+fn with_three(line: &[u8], bytes: &mut [u8]) -> Option<Command> {
     if check::same(bench_words::word(line, 0), b"start") {
         return start_as(
             bench_words::word(line, 1),
@@ -195,11 +192,11 @@ fn with_three(line: &[u8], bytes: &mut [u8]) -> Command {
             bytes,
         );
     }
-    Command::NotACommand
+    None
 }
 
 // The command that the line is. The bytes of its HEX stand at the start of `bytes`.
-pub(crate) fn parse(line: &[u8], bytes: &mut [u8]) -> Command {
+pub(crate) fn parse(line: &[u8], bytes: &mut [u8]) -> Option<Command> {
     match bench_words::count(line) {
         1 => alone(line),
         2 => with_one(
@@ -214,6 +211,6 @@ pub(crate) fn parse(line: &[u8], bytes: &mut [u8]) -> Command {
             bytes,
         ),
         4 => with_three(line, bytes),
-        _ => Command::NotACommand,
+        _ => None,
     }
 }

@@ -194,10 +194,6 @@ fn perform<W: Write>(to: &mut W, card: Card, command: Command, buffer: &[u8]) ->
             hear(to, protocol, bench_words::first(buffer, n))?;
             Ok(card)
         }
-        Command::NotACommand => {
-            unknown(to)?;
-            Ok(card)
-        }
     }
 }
 
@@ -216,6 +212,9 @@ pub(crate) fn answer<W: Write>(to: &mut W, card: Card, line: &[u8]) -> io::Resul
         bench_master::ask(to, line)?;
         return Ok(card);
     }
-    let command = command::parse(line, &mut buffer);
+    let Some(command) = command::parse(line, &mut buffer) else {
+        unknown(to)?;
+        return Ok(card);
+    };
     perform(to, card, command, &buffer)
 }

@@ -1,83 +1,68 @@
 // The lines of more than three words. Each tells a master to write a request into a lent buffer, and the whole buffer is printed.
 ghost use Rattle.std.specs.Prelude.{◌≡◌, IfOk};
 
-use bench_words::{Number, Short, Spelling};
 use master::Sent;
 use master_request::Ask;
 use std::io;
 use std::io::Write;
 use table::{ENumber, Register};
 
-// What comes of a line.
-#[derive(Clone, Copy)]
-enum Asked {
-    Sent(Sent),
-    NotACommand,
-}
-
-// The two numbers behind B.
-#[derive(Clone, Copy)]
-enum Head {
-    Numbers(u8, u16),
-    Outside,
-}
-
 // `ADR N`, word `k` and the one after it. N is E, REG or FN.
-fn head_at(line: &[u8], k: u8) -> Head {
+fn head_at(line: &[u8], k: u8) -> Option<(u8, u16)> {
     let at = k as usize;
-    let Short::Word(address) = bench_words::between16(0, 255, bench_words::word(line, at)) else {
-        return Head::Outside;
+    let Some(address) = bench_words::between16(0, 255, bench_words::word(line, at)) else {
+        return None;
     };
-    let Short::Word(n) = bench_words::between16(0, 65535, bench_words::word(line, at + 1)) else {
-        return Head::Outside;
+    let Some(n) = bench_words::between16(0, 65535, bench_words::word(line, at + 1)) else {
+        return None;
     };
-    Head::Numbers((address % 256) as u8, n)
+    Some(((address % 256) as u8, n))
 }
 
 // `enq B ADR E`
-fn enquiry(line: &[u8], buffer: &mut [u8]) -> Asked {
+fn enquiry(line: &[u8], buffer: &mut [u8]) -> Option<Sent> {
     if !check::same(bench_words::word(line, 0), b"enq") {
-        return Asked::NotACommand;
+        return None;
     }
-    let Head::Numbers(address, e) = head_at(line, 2) else {
-        return Asked::NotACommand;
+    let Some((address, e)) = head_at(line, 2) else {
+        return None;
     };
-    Asked::Sent(master_nfo::enquiry(address, ENumber(e), buffer))
+    Some(master_nfo::enquiry(address, ENumber(e), buffer))
 }
 
 // `sel B ADR E VALUE`, VALUE from -32768 to 32767
-fn select(line: &[u8], buffer: &mut [u8]) -> Asked {
+fn select(line: &[u8], buffer: &mut [u8]) -> Option<Sent> {
     if !check::same(bench_words::word(line, 0), b"sel") {
-        return Asked::NotACommand;
+        return None;
     }
-    let Head::Numbers(address, e) = head_at(line, 2) else {
-        return Asked::NotACommand;
+    let Some((address, e)) = head_at(line, 2) else {
+        return None;
     };
-    let Short::Word(value) = bench_words::between16(32768, 32767, bench_words::word(line, 4)) else {
-        return Asked::NotACommand;
+    let Some(value) = bench_words::between16(32768, 32767, bench_words::word(line, 4)) else {
+        return None;
     };
-    Asked::Sent(master_nfo::select(address, ENumber(e), value, buffer))
+    Some(master_nfo::select(address, ENumber(e), value, buffer))
 }
 
 // A request by P, which is word 1.
-fn modbus(line: &[u8], address: u8, ask: Ask, registers: &[u8], buffer: &mut [u8]) -> Asked {
+fn modbus(line: &[u8], address: u8, ask: Ask, registers: &[u8], buffer: &mut [u8]) -> Option<Sent> {
     let protocol = bench_words::word(line, 1);
     if check::same(protocol, b"rtu") {
-        return Asked::Sent(master_rtu::write_request(address, ask, registers, buffer));
+        return Some(master_rtu::write_request(address, ask, registers, buffer));
     }
     if check::same(protocol, b"ascii") {
-        return Asked::Sent(master_ascii::write_request(address, ask, registers, buffer));
+        return Some(master_ascii::write_request(address, ask, registers, buffer));
     }
-    Asked::NotACommand
+    None
 }
 
 // `one P B ADR REG WORD`
-fn one(line: &[u8], buffer: &mut [u8]) -> Asked {
-    let Head::Numbers(address, register) = head_at(line, 3) else {
-        return Asked::NotACommand;
+fn one(line: &[u8], buffer: &mut [u8]) -> Option<Sent> {
+    let Some((address, register)) = head_at(line, 3) else {
+        return None;
     };
-    let Short::Word(word) = bench_words::between16(0, 65535, bench_words::word(line, 5)) else {
-        return Asked::NotACommand;
+    let Some(word) = bench_words::between16(0, 65535, bench_words::word(line, 5)) else {
+        return None;
     };
     modbus(
         line,
@@ -89,15 +74,15 @@ fn one(line: &[u8], buffer: &mut [u8]) -> Asked {
 }
 
 // `many P B ADR REG HEX`, HEX of an even number of bytes
-fn many(line: &[u8], bytes: &mut [u8], buffer: &mut [u8]) -> Asked {
-    let Head::Numbers(address, first) = head_at(line, 3) else {
-        return Asked::NotACommand;
+fn many(line: &[u8], bytes: &mut [u8], buffer: &mut [u8]) -> Option<Sent> {
+    let Some((address, first)) = head_at(line, 3) else {
+        return None;
     };
-    let Spelling::Bytes(n) = bench_words::spelt(bench_words::word(line, 5), bytes) else {
-        return Asked::NotACommand;
+    let Some(n) = bench_words::spelt(bench_words::word(line, 5), bytes) else {
+        return None;
     };
     if n % 2 != 0 {
-        return Asked::NotACommand;
+        return None;
     }
     modbus(
         line,
@@ -109,7 +94,7 @@ fn many(line: &[u8], bytes: &mut [u8], buffer: &mut [u8]) -> Asked {
 }
 
 // `one` or `many`
-fn write(line: &[u8], bytes: &mut [u8], buffer: &mut [u8]) -> Asked {
+fn write(line: &[u8], bytes: &mut [u8], buffer: &mut [u8]) -> Option<Sent> {
     let name = bench_words::word(line, 0);
     if check::same(name, b"one") {
         return one(line, buffer);
@@ -117,54 +102,50 @@ fn write(line: &[u8], bytes: &mut [u8], buffer: &mut [u8]) -> Asked {
     if check::same(name, b"many") {
         return many(line, bytes, buffer);
     }
-    Asked::NotACommand
+    None
 }
 
 // `read P B ADR FN REG COUNT`, FN 3 or 4
-fn read(line: &[u8], buffer: &mut [u8]) -> Asked {
+fn read(line: &[u8], buffer: &mut [u8]) -> Option<Sent> {
     if !check::same(bench_words::word(line, 0), b"read") {
-        return Asked::NotACommand;
+        return None;
     }
-    let Head::Numbers(address, function) = head_at(line, 3) else {
-        return Asked::NotACommand;
+    let Some((address, function)) = head_at(line, 3) else {
+        return None;
     };
-    let Short::Word(first) = bench_words::between16(0, 65535, bench_words::word(line, 5)) else {
-        return Asked::NotACommand;
+    let Some(first) = bench_words::between16(0, 65535, bench_words::word(line, 5)) else {
+        return None;
     };
-    let Short::Word(count) = bench_words::between16(0, 65535, bench_words::word(line, 6)) else {
-        return Asked::NotACommand;
+    let Some(count) = bench_words::between16(0, 65535, bench_words::word(line, 6)) else {
+        return None;
     };
     let ask = match function {
         3 => Ask::Holding(Register(first), count),
         4 => Ask::Input(Register(first), count),
-        _ => return Asked::NotACommand,
+        _ => return None,
     };
     modbus(line, address, ask, b"", buffer)
 }
 
 // Does what the line tells.
-fn request(line: &[u8], bytes: &mut [u8], buffer: &mut [u8]) -> Asked {
+fn request(line: &[u8], bytes: &mut [u8], buffer: &mut [u8]) -> Option<Sent> {
     match bench_words::count(line) {
         4 => enquiry(line, buffer),
         5 => select(line, buffer),
         6 => write(line, bytes, buffer),
         7 => read(line, buffer),
-        _ => Asked::NotACommand,
+        _ => None,
     }
 }
 
 // The length of what was written, 0 for nothing.
 fn length_of(sent: Sent) -> usize {
-    match sent {
-        Sent::Written(n) => n,
-        Sent::CannotBeSaid => 0,
-        Sent::ShortBuffer => 0,
-    }
+    sent.unwrap_or(0)
 }
 
 // `OUTCOME LEN BUFFER`, and where it ends.
 fn answer(out: &mut [u8], sent: Sent, buffer: &[u8]) -> usize {
-    let mut n = bench_lines::unsigned(out, 0, sent.number() as u64);
+    let mut n = bench_lines::unsigned(out, 0, master::number_of(sent) as u64);
     n = bench_lines::spaced(out, n, length_of(sent) as u64);
     n = bench_lines::put(out, n, b' ');
     bench_lines::bytes(out, n, buffer)
@@ -174,7 +155,7 @@ fn answer(out: &mut [u8], sent: Sent, buffer: &[u8]) -> usize {
 fn ask_in<W: Write>(to: &mut W, line: &[u8], buffer: &mut [u8]) -> io::Result<()> {
     let mut bytes = [0u8; 1350];
     let mut out = [0u8; 2048];
-    let Asked::Sent(sent) = request(line, &mut bytes, buffer) else {
+    let Some(sent) = request(line, &mut bytes, buffer) else {
         return unknown(to);
     };
     let n = answer(&mut out, sent, buffer);
@@ -199,11 +180,8 @@ pub fn ask<W: Write>(to: &mut W, line: &[u8]) -> io::Result<()>
     ensures { IfOk result (λ u. u ≡ tt) }
 {
     let mut buffer = [0xA5u8; 600];
-    let Number::Word(b) = bench_words::between(
-        0,
-        u32::MAX,
-        bench_words::word(line, place_of_size(line)),
-    ) else {
+    let Some(b) = bench_words::between(0, u32::MAX, bench_words::word(line, place_of_size(line)))
+    else {
         return unknown(to);
     };
     let size = b as usize;

@@ -29,13 +29,13 @@ fn value(out: &mut [u8], len: usize, address: u8, e: ENumber, word: u16) -> usiz
 }
 
 // `nreply HEX`: the outcome, and what an NFO serial reply says.
-fn nfo(out: &mut [u8], reply: master_nfo::Reply) -> usize {
-    let n = bench_lines::unsigned(out, 0, reply.number() as u64);
+fn nfo(out: &mut [u8], reply: Option<master_nfo::Reply>) -> usize {
+    let n = bench_lines::unsigned(out, 0, master_nfo::number_of(reply) as u64);
     match reply {
-        master_nfo::Reply::Told(address, e, word) => value(out, n, address, e, word),
-        master_nfo::Reply::Acknowledged(address) => said(out, n, b'A', address),
-        master_nfo::Reply::Refused(address) => said(out, n, b'N', address),
-        master_nfo::Reply::NotAReply => n,
+        Some(master_nfo::Reply::Told(address, e, word)) => value(out, n, address, e, word),
+        Some(master_nfo::Reply::Acknowledged(address)) => said(out, n, b'A', address),
+        Some(master_nfo::Reply::Refused(address)) => said(out, n, b'N', address),
+        None => n,
     }
 }
 
@@ -78,15 +78,19 @@ fn data(
 fn modbus(out: &mut [u8], heard: Heard) -> usize {
     let reply = heard.reply;
     let words = heard.words;
-    let n = bench_lines::unsigned(out, 0, reply.number() as u64);
+    let n = bench_lines::unsigned(out, 0, master_reply::number_of(reply) as u64);
     match reply {
-        Reply::Data(address, function, count) => data(out, n, address, function, &words, count),
-        Reply::One(address, register, word) => said_of(out, n, b'S', address, register.0, word),
-        Reply::Many(address, first, count) => said_of(out, n, b'M', address, first.0, count),
-        Reply::Exception(address, function, code) => {
+        Some(Reply::Data(address, function, count)) => data(
+            out, n, address, function, &words, count,
+        ),
+        Some(Reply::One(address, register, word)) => said_of(
+            out, n, b'S', address, register.0, word,
+        ),
+        Some(Reply::Many(address, first, count)) => said_of(out, n, b'M', address, first.0, count),
+        Some(Reply::Exception(address, function, code)) => {
             said_of(out, n, b'X', address, function as u16, code as u16)
         }
-        Reply::NotAReply => n,
+        None => n,
     }
 }
 

@@ -1,4 +1,5 @@
 -- What a word spells, by the tests that the code makes. Assumes nothing.
+use Rattle.std.proofs.Common.{Some, None}
 use mathlib.Core.Path.{◌≡◌, sym, ap, ◌∙◌}
 use mathlib.Core.Bool.{Bool, true, false}
 use mathlib.Core.List.{List, [], ◌∷◌}
@@ -14,7 +15,6 @@ use Rattle.base.specs.Bytes.{same}
 use Rattle.base.proofs.Tests.{same_test}
 use Rattle.base.proofs.Lists.{same_out, same_in}
 use Rattle.hex_pairs.specs.Hex.{capital_of, capitals, bytes_of}
-use Rattle.bench_words.specs.declared.spelling.Spelling.TheVariants.{Bytes, NotHex}
 use Rattle.bench_words.specs.Spelling.{in_capitals, bytes_spelt, spelling_of}
 
 -- r tells whether s and t hold the same bytes
@@ -23,7 +23,7 @@ compared s t r b c e = same_test (same s t) r (λ k. c.1 (same_out s t k)) (λ k
 
 -- `-`
 pub spelt_dash : (word bytes : List ℕ) (r : Bool) → (r ≡ true → word ≡ 0x2D ∷ []) × (word ≡ 0x2D ∷ [] → r ≡ true) → r ≡ true
-    → (Bytes 0 ≡ spelling_of word (length bytes)) × (bytes ≡ sets bytes 0 (bytes_spelt word))
+    → (Some 0 ≡ spelling_of word (length bytes)) × (bytes ≡ sets bytes 0 (bytes_spelt word))
 unfolding spelling_of bytes_spelt
 spelt_dash word bytes r c e = let yes : same word (0x2D ∷ []) ≡ true = compared word (0x2D ∷ []) r true c e in (simp yes, simp yes)
 
@@ -47,7 +47,7 @@ module _ (word : List ℕ) (i : ℕ) (rest : in_capitals (drop i word) ≡ in_ca
 
 -- a word that is no `-`
 module _ (word bytes : List ℕ) (r : Bool) (c : (r ≡ true → word ≡ 0x2D ∷ []) × (word ≡ 0x2D ∷ [] → r ≡ true)) (e : r ≡ false) (t : Bool) (told : t ≡ in_capitals word) where
-  pub spelt_small : t ≡ false → (NotHex ≡ spelling_of word (length bytes)) × (bytes ≡ sets bytes 0 (bytes_spelt word))
+  pub spelt_small : t ≡ false → (None ≡ spelling_of word (length bytes)) × (bytes ≡ sets bytes 0 (bytes_spelt word))
   unfolding spelling_of bytes_spelt
   spelt_small f =
       let other : same word (0x2D ∷ []) ≡ false = compared word (0x2D ∷ []) r false c e in
@@ -70,18 +70,18 @@ module _ (word bytes after : List ℕ) (r : Bool) (c : (r ≡ true → word ≡ 
   unfolding bytes_spelt
   lent = simp (other, capital) p.1
 
-  pub spelt_none : n ≡ 0 → (NotHex ≡ spelling_of word (length bytes)) × (after ≡ sets bytes 0 (bytes_spelt word))
+  pub spelt_none : n ≡ 0 → (None ≡ spelling_of word (length bytes)) × (after ≡ sets bytes 0 (bytes_spelt word))
   unfolding spelling_of
   spelt_none z = (simp (other, capital, eq-eqb (length (bytes_of word)) 0 (sym p.0 ∙ z)), lent)
 
-  pub spelt_many : (n ≡ 0 → ⊥) → length after < n → (NotHex ≡ spelling_of word (length bytes)) × (after ≡ sets bytes 0 (bytes_spelt word))
+  pub spelt_many : (n ≡ 0 → ⊥) → length after < n → (None ≡ spelling_of word (length bytes)) × (after ≡ sets bytes 0 (bytes_spelt word))
   unfolding spelling_of
   spelt_many z h =
       let some : length (bytes_of word) ≡ 0 → ⊥ = λ q. z (p.0 ∙ q) in
       let much : length bytes < length (bytes_of word) = omega (arith, p.0, kept) in
       (simp (other, capital, ne_eqb (length (bytes_of word)) 0 some, lt-ltb (length bytes) (length (bytes_of word)) much), lent)
 
-  pub spelt_spoilt : (n ≡ 0 → ⊥) → n ≤ length after → (2 * n ≡ length word → ⊥) → (NotHex ≡ spelling_of word (length bytes)) × (after ≡ sets bytes 0 (bytes_spelt word))
+  pub spelt_spoilt : (n ≡ 0 → ⊥) → n ≤ length after → (2 * n ≡ length word → ⊥) → (None ≡ spelling_of word (length bytes)) × (after ≡ sets bytes 0 (bytes_spelt word))
   unfolding spelling_of
   spelt_spoilt z h k =
       let some : length (bytes_of word) ≡ 0 → ⊥ = λ q. z (p.0 ∙ q) in
@@ -91,13 +91,13 @@ module _ (word bytes after : List ℕ) (r : Bool) (c : (r ≡ true → word ≡ 
         lent,
       )
 
-  pub spelt_bytes : (n ≡ 0 → ⊥) → n ≤ length after → 2 * n ≡ length word → (Bytes n ≡ spelling_of word (length bytes)) × (after ≡ sets bytes 0 (bytes_spelt word))
+  pub spelt_bytes : (n ≡ 0 → ⊥) → n ≤ length after → 2 * n ≡ length word → (Some n ≡ spelling_of word (length bytes)) × (after ≡ sets bytes 0 (bytes_spelt word))
   unfolding spelling_of
   spelt_bytes z h k =
       let some : length (bytes_of word) ≡ 0 → ⊥ = λ q. z (p.0 ∙ q) in
       let fits : length (bytes_of word) ≤ length bytes = omega (arith, p.0, kept) in
       let even : 2 * length (bytes_of word) ≡ length word = ap (λ (x : ℕ). 2 * x) (sym p.0) ∙ k in (
-        ap Bytes p.0
+        ap Some p.0
             ∙ simp (other, capital, ne_eqb (length (bytes_of word)) 0 some, le-ltb (length bytes) (length (bytes_of word)) fits, eq-eqb (2 * length (bytes_of word)) (length word) even),
         lent,
       )

@@ -6,6 +6,6 @@ mod numbers;
 mod spelling;
 mod words;
 
-pub use numbers::{Number, Short, between, between16};
-pub use spelling::{Spelling, first, spelt};
+pub use numbers::{between, between16};
+pub use spelling::{first, spelt};
 pub use words::{count, word};

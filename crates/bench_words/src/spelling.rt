@@ -3,35 +3,28 @@ ghost use Rattle.std.specs.Prelude.{◌≡◌, length, take};
 ghost use Rattle.std.proofs.lemmas.List.Edits.{sets};
 ghost use Rattle.bench_words.specs.Spelling.{in_capitals, spelling_of, bytes_spelt};
 
-// How many bytes HEX spells.
-#[derive(Clone, Copy)]
-pub enum Spelling {
-    Bytes(usize),
-    NotHex,
-}
-
-// Puts the bytes that HEX spells at the start of `bytes`. More than fit are no HEX of a command.
-pub fn spelt(word: &[u8], bytes: &mut [u8]) -> Spelling
+// Puts the bytes that HEX spells at the start of `bytes`, and tells how many they are. More than fit are no HEX of a command.
+pub fn spelt(word: &[u8], bytes: &mut [u8]) -> Option<usize>
     ensures number { result ≡ spelling_of word.now (length bytes.old) }
     ensures lent { bytes.new ≡ sets bytes.old 0 (bytes_spelt word.now) }
 {
     if check::same(word, b"-") {
-        return Spelling::Bytes(0);
+        return Some(0);
     }
     if !in_capitals(word) {
-        return Spelling::NotHex;
+        return None;
     }
     let n = hex_pairs::decode(word, bytes);
     if n == 0 {
-        return Spelling::NotHex;
+        return None;
     }
     if bytes.len() < n {
-        return Spelling::NotHex;
+        return None;
     }
     if 2 * n != word.len() {
-        return Spelling::NotHex;
+        return None;
     }
-    Spelling::Bytes(n)
+    Some(n)
 }
 
 // Whether no character is one of a-f.

@@ -1,4 +1,5 @@
 -- Signed numbers, by their bits: a test is of what the machine reads back from them. Assumes nothing.
+use Rattle.std.proofs.Common.{Some, None}
 use mathlib.Core.Path.{◌≡◌, refl, sym, ap, subst, ◌∙◌}
 use mathlib.Core.Bool.{true, false, true≢false}
 use Prim.Native.Nat.{ℕ, ◌+◌, ◌*◌, ◌/◌, ◌<◌, ◌≤◌, zero-le}
@@ -10,7 +11,6 @@ use mir.Syntax.{w32, w64}
 use mir.Val.{SFits, of_z, to_z}
 use mir.ValLaws.{to_z-of_z}
 use Rattle.clock.specs.Time.{natural_of, is_zero, last_second, time_of}
-use Rattle.clock.specs.declared.Time.TheVariants.{At, Unknown}
 
 -- ---- a number that is not negative, and one that is
 pub not_negative : (z : ℤ) → le_z (pos 0) z ≡ true → T (non_neg z)
@@ -35,7 +35,7 @@ is_not_0 (negsuc n) h = refl
 
 -- ---- the three answers
 module _ (status seconds nanoseconds : ℤ) where
-  pub failed_none : (of_z w32 status ≡ 0 → ⊥) → Unknown ≡ time_of status seconds nanoseconds
+  pub failed_none : (of_z w32 status ≡ 0 → ⊥) → None ≡ time_of status seconds nanoseconds
   unfolding time_of
   failed_none h = rw (is_not_0 status h)
 
@@ -43,11 +43,11 @@ module _ (status seconds nanoseconds : ℤ) where
     same : whole ≡ natural_of seconds
     same = w ∙ ap natural_of (to_z-of_z w64 seconds g)
 
-    pub late_none : last_second < whole → Unknown ≡ time_of status seconds nanoseconds
+    pub late_none : last_second < whole → None ≡ time_of status seconds nanoseconds
     unfolding time_of
     late_none l = rw (is_0 status f zero, lt-ltb last_second (natural_of seconds) (subst (λ (n : ℕ). last_second < n) same l))
 
-    pub told_at : (n : ℕ) → SFits w64 nanoseconds → n ≡ natural_of (to_z w64 (of_z w64 nanoseconds)) → whole ≤ last_second → At (whole * 1000 + n / 1000000) ≡ time_of status seconds nanoseconds
+    pub told_at : (n : ℕ) → SFits w64 nanoseconds → n ≡ natural_of (to_z w64 (of_z w64 nanoseconds)) → whole ≤ last_second → Some (whole * 1000 + n / 1000000) ≡ time_of status seconds nanoseconds
     unfolding time_of
     told_at n k e l =
         let nanos : n ≡ natural_of nanoseconds = e ∙ ap natural_of (to_z-of_z w64 nanoseconds k) in

@@ -1,8 +1,6 @@
 -- The time in milliseconds that the clock's answer tells. Assumes nothing.
-use Rattle.std.specs.Prelude.{◌≡◌, ◌<◌, Bool, false, ℕ, ◌+◌, ◌*◌, ◌/◌, eqb, ltb, ℤ, pos, negsuc}
+use Rattle.std.specs.Prelude.{◌≡◌, ◌<◌, Bool, false, ℕ, ◌+◌, ◌*◌, ◌/◌, eqb, ltb, ℤ, pos, negsuc, Option, Some, None}
 use Rattle.base.specs.Choice.{pick}
-use Rattle.clock.specs.declared.Time.{Time}
-use Rattle.clock.specs.declared.Time.TheVariants.{At, Unknown}
 
 -- what a call of C's that does what it was asked to, or fails, may answer: 0, or -1
 abbrev pub Status : ℤ → Type 0
@@ -29,6 +27,6 @@ abbrev pub last_second : ℕ
 last_second = 1000000000000000
 
 -- the time of a status, seconds and nanoseconds: none with a status other than 0, or with seconds past the last
-unfoldable pub time_of : ℤ → ℤ → ℤ → Time
+unfoldable pub time_of : ℤ → ℤ → ℤ → Option ℕ
 time_of status seconds nanoseconds =
-    pick (is_zero status) (pick (ltb last_second (natural_of seconds)) Unknown (At (natural_of seconds * 1000 + natural_of nanoseconds / 1000000))) Unknown
+    pick (is_zero status) (pick (ltb last_second (natural_of seconds)) None (Some (natural_of seconds * 1000 + natural_of nanoseconds / 1000000))) None

@@ -16,13 +16,6 @@ pub struct Told {
     pub nanoseconds: i64,
 }
 
-// A time in milliseconds, or that there is none.
-#[derive(Clone, Copy)]
-pub enum Time {
-    At(u64),
-    Unknown,
-}
-
 // What there is where the clock told no time.
 const UNTOLD: Told = Told {
     status: -1,
@@ -51,18 +44,18 @@ pub fn monotonic(rt: &impl Clock) -> Told
     }
 }
 
-// The time that an answer of these numbers tells: none with a status other than 0, or with seconds past the last. A negative number counts as 0.
-pub fn time_of(status: i32, seconds: i64, nanoseconds: i64) -> Time
+// The time in milliseconds that an answer of these numbers tells: none with a status other than 0, or with seconds past the last. A negative number counts as 0.
+pub fn time_of(status: i32, seconds: i64, nanoseconds: i64) -> Option<u64>
     ensures { result ≡ time_of status seconds nanoseconds }
 {
     if status != 0 {
-        return Time::Unknown;
+        return None;
     }
     let whole = natural(seconds);
     if LAST_SECOND < whole {
-        return Time::Unknown;
+        return None;
     }
-    Time::At(whole * 1000 + natural(nanoseconds) / 1_000_000)
+    Some(whole * 1000 + natural(nanoseconds) / 1_000_000)
 }
 
 // A number that is not negative, as it is; any other is 0.

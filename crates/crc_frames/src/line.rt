@@ -2,12 +2,6 @@
 ghost use Rattle.std.specs.Prelude.{◌≡◌};
 ghost use Rattle.crc_frames.specs.Line.{is_dash, answer_of};
 
-#[derive(Clone, Copy)]
-pub enum Answer {
-    Crc(u16),
-    NoFrame,
-}
-
 // Whether the line is a `-` alone.
 fn is_dash(line: &[u8]) -> bool
     ensures { result ≡ is_dash line.now }
@@ -19,22 +13,22 @@ fn is_dash(line: &[u8]) -> bool
 }
 
 // The CRC of the frame that the line spells: `-` for no bytes, or one to 512 pairs of hex digits.
-pub fn line_crc(line: &[u8]) -> Answer
+pub fn line_crc(line: &[u8]) -> Option<u16>
     ensures { result ≡ answer_of line.now }
 {
     if is_dash(line) {
-        return Answer::Crc(checks::crc(&line[0..0]));
+        return Some(checks::crc(&line[0..0]));
     }
     let mut bytes = [0u8; 512];
     let n = hex_pairs::decode(line, &mut bytes);
     if n == 0 {
-        return Answer::NoFrame;
+        return None;
     }
     if 512 < n {
-        return Answer::NoFrame;
+        return None;
     }
     if 2 * n != line.len() {
-        return Answer::NoFrame;
+        return None;
     }
-    Answer::Crc(checks::crc(&bytes[0..n]))
+    Some(checks::crc(&bytes[0..n]))
 }

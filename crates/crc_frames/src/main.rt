@@ -7,12 +7,11 @@
 
 mod line;
 
-use line::Answer;
 use std::io;
 use std::io::{Read, Write};
 
-fn print<W: Write>(out: &mut W, answer: Answer) -> io::Result<()> {
-    let Answer::Crc(crc) = answer else {
+fn print<W: Write>(out: &mut W, answer: Option<u16>) -> io::Result<()> {
+    let Some(crc) = answer else {
         return out.write_all(b"?\n");
     };
     let word = [(crc / 256) as u8, (crc % 256) as u8];
@@ -27,7 +26,7 @@ fn answer<W: Write>(out: &mut W, text: &[u8; 1024], len: usize) -> io::Result<()
     if len <= characters.len() {
         print(out, line::line_crc(&characters[0..len]))
     } else {
-        print(out, Answer::NoFrame)
+        print(out, None)
     }
 }
 

@@ -1,4 +1,5 @@
 -- What comes of a message that asks for a row, and of one that writes a row, on a card with nothing pending. Assumes nothing.
+use Rattle.std.proofs.Common.{Some}
 use mathlib.Core.Path.{◌≡◌, refl, sym, ap, ◌∙◌}
 use mathlib.Core.Bool.{true, false}
 use mathlib.Core.List.{List, []}
@@ -20,7 +21,6 @@ use Rattle.reading.specs.Read.{told}
 use Rattle.service.specs.Serving.{told_served}
 use Rattle.pending.specs.Held.{empty, held}
 use Rattle.nfo_parts.specs.declared.message.Message.TheVariants.{Enquiry}
-use Rattle.nfo_parts.specs.declared.message.Parameter.TheVariants.{Number}
 use Rattle.nfo_service.specs.Serve as Nfo
 use Rattle.modbus.specs.Request.{request_of}
 use Rattle.modbus.specs.declared.requests.Request.TheVariants.{Read, One, Many}
@@ -80,7 +80,7 @@ module _ (p : Plant) (q : Numbers) (n : ℕ) where
   abbrev pub tale : Answer
   tale = Answers.Told (record { 0 = n }) (told p q n).word
 
-  pub enquiry_told : (adr e : ℕ) → Nfo.to_us p adr ≡ true → row_of_e e ≡ row n → (Nfo.served p q (Enquiry adr (Number (record { 0 = e })))).answer ≡ tale
+  pub enquiry_told : (adr e : ℕ) → Nfo.to_us p adr ≡ true → row_of_e e ≡ row n → (Nfo.served p q (Enquiry adr (Some (record { 0 = e })))).answer ≡ tale
   unfolding Nfo.served Nfo.enquiry_served Nfo.row_named told_served
   enquiry_told adr e us k = rw (us, k)
 

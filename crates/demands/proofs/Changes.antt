@@ -1,5 +1,6 @@
 -- What each change of a plant keeps, every routine keeps, from any card at all: there is one list of the changes, and each routine makes one of them or none.
 -- Assumes nothing.
+use Rattle.std.proofs.Common.{Result}
 use mathlib.Core.Path.{◌≡◌}
 use mathlib.Core.Bool.{Bool, true, not}
 use mathlib.Core.List.{List}
@@ -19,7 +20,6 @@ use Rattle.drive.specs.declared.events.Measured.{Measured}
 use Rattle.reading.specs.Read.{Told, told}
 use Rattle.permit.specs.Refusals.{read_only, allowed, init_running, permitted}
 use Rattle.permit.specs.Permit.{permit_of}
-use Rattle.permit.specs.declared.Permit.{Permit}
 use Rattle.service.specs.Write.{applied, after, written}
 use Rattle.service.specs.Serving.{Served, told_served, wrote_served}
 use Rattle.card.specs.State.{Core, restarted}
@@ -30,6 +30,8 @@ use Rattle.receive.specs.Receive.{received}
 use Rattle.demands.specs.Calls.{Step, receive, restart, raise, end, din1, measure, parity, tick, Run, done, then}
 use Rattle.demands.proofs.Serving.{nfo_each, modbus_each}
 use Rattle.demands.proofs.Each.{each, each_tick}
+use Rattle.answers.specs.declared.Change.{Change}
+use Rattle.answers.specs.declared.Refusal.{Refusal}
 
 -- a plant that has the property A has it after each change
 pub record Changes (A : Plant → Type 0) : Type 0 where
@@ -69,7 +71,7 @@ module _ (A : Plant → Type 0) (change : Changes A) where
         (λ _. pick_both After (init_running p row) (λ _. at)
         (λ _. pick_both After (not (permitted p row w)) (λ _. at) (λ _. change.writes row w p (not-false (allowed p row w) can) at)))))
       where
-        After : Permit → Type 0
+        After : Result Change Refusal → Type 0
         After x = A (after x p)
 
   -- ---- the card

@@ -1,4 +1,5 @@
 -- Demand 1 holds: each number is given by the first line of its order that applies, and leaves what document 01 says. Assumes nothing.
+use Rattle.std.proofs.Common.{Result, Ok, Err}
 use mathlib.Core.Path.{◌≡◌, refl, sym, ap, ◌∙◌}
 use mathlib.Core.Bool.{Bool, true, false, not}
 use mathlib.Core.List.{List, [], ◌∷◌}
@@ -21,8 +22,7 @@ use Rattle.card.specs.Outcome.{outcome_number}
 use Rattle.card.specs.declared.state.Card.{Card}
 use Rattle.card.specs.declared.events.After.{After}
 use Rattle.card.specs.declared.outcome.Outcome.TheVariants.{Done, NoSuchEvent}
-use Rattle.master.specs.declared.Sent.{Sent}
-use Rattle.master.specs.declared.Sent.TheVariants.{Written, CannotBeSaid, ShortBuffer}
+use Rattle.master.specs.declared.Unsent.TheVariants.{CannotBeSaid, ShortBuffer}
 use Rattle.master.specs.Sent.{sent_number, refusals, sent_of, bytes_sent}
 use Rattle.master.proofs.Sends.{sent_cases}
 use Rattle.receive.specs.Receive.{received}
@@ -34,6 +34,7 @@ use Rattle.demands.proofs.Leaving.{received_leaves}
 use Rattle.demands.proofs.OneCall.{nfo_nothing, ascii_nothing, nfo_takes, ascii_takes, rtu_used}
 use Rattle.demands.proofs.Unsaid.{unsaid}
 use Rattle.demands.proofs.Hearing.{hearing}
+use Rattle.master.specs.declared.Unsent.{Unsent}
 
 -- ---- calls
 reply_fits : (c : Card) (bytes : List ℕ) (room : ℕ) → length (received c bytes room).reply ≤ room
@@ -113,7 +114,7 @@ sent_number_lem : (sayable : Bool) (m : List ℕ) (room : ℕ) → sent_number (
 unfolding sent_of
 sent_number_lem s m room = go s (ltb room (length m))
   where
-    go : (s t : Bool) → sent_number (pick (not s) CannotBeSaid (pick t ShortBuffer (Written (length m)))) ≡ pick (not s) 13 (pick t 10 0)
+    go : (s t : Bool) → sent_number (pick (not s) (Err CannotBeSaid) (pick t (Err ShortBuffer) (Ok (length m)))) ≡ pick (not s) 13 (pick t 10 0)
     go false t = refl
     go true true = refl
     go true false = refl
@@ -121,7 +122,7 @@ sent_number_lem s m room = go s (ltb room (length m))
 unsent : (sayable : Bool) (m : List ℕ) (room : ℕ) → (sent_number (sent_of sayable m room) ≡ 0 → ⊥) → bytes_sent sayable m room ≡ []
 unfolding bytes_sent
 unsent s m room =
-    sent_cases s m room (λ (x : Sent). (sent_number x ≡ 0 → ⊥) → bytes_sent s m room ≡ []) (λ e _. simp e) (λ e h _. simp e (fitting_none m room h)) (λ e h n. absurd (n refl))
+    sent_cases s m room (λ (x : Result ℕ Unsent). (sent_number x ≡ 0 → ⊥) → bytes_sent s m room ≡ []) (λ e _. simp e) (λ e h _. simp e (fitting_none m room h)) (λ e h n. absurd (n refl))
 
 writing : Writing
 writing =

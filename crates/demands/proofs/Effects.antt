@@ -1,4 +1,5 @@
 -- Each message has exactly the effect of document 01. Assumes nothing.
+use Rattle.std.proofs.Common.{Result, Ok, Err}
 use mathlib.Core.Path.{◌≡◌, refl, sym, ap, subst, ◌∙◌}
 use mathlib.Core.Logic.{◌≢◌}
 use mathlib.Core.Bool.{Bool, true, false, not, false≢true}
@@ -25,8 +26,6 @@ use Rattle.drive.proofs.Masks.{masks}
 use Rattle.answers.specs.declared.Answer.{Answer}
 use Rattle.answers.specs.declared.Answer.TheVariants as Answers
 use Rattle.answers.specs.declared.Change.{Change}
-use Rattle.permit.specs.declared.Permit.{Permit}
-use Rattle.permit.specs.declared.Permit.TheVariants as Permits
 use Rattle.reading.specs.Read.{Told, stored, told}
 use Rattle.reading.proofs.Tells.{tells_stored, tells_ack, tells_status, tells_sioerr}
 use Rattle.service.specs.Write.{written}
@@ -49,6 +48,7 @@ use Rattle.demands.proofs.Naming.{names}
 use Rattle.demands.proofs.Changing.{tells_word, wrote, stopped_is, read_leaves}
 use Rattle.demands.proofs.Coming.{comes}
 use Rattle.demands.proofs.DriveStatus.{word_says}
+use Rattle.answers.specs.declared.Refusal.{Refusal}
 
 -- ---- the answer says which of them it was
 -- a number for each case of an answer, and the change or the row that it carries
@@ -82,10 +82,10 @@ module _ (c : Card) (sound : Sound c) (r : Received) (then : Sound r.card) where
   Writes change = (flags c.plant ≡ 0 → WriteLeaves c change r.card) × (flags c.plant ≢ 0 → StopLeaves c change r.card)
 
   -- by its permit
-  permit_writes : (h : Pending) (row w : ℕ) (change : Change) (k : Permit) → (written c.plant row w).permit ≡ k → permitted k ≡ Answers.Written change
+  permit_writes : (h : Pending) (row w : ℕ) (change : Change) (k : Result Change Refusal) → (written c.plant row w).permit ≡ k → permitted k ≡ Answers.Written change
       → r.card ≡ card_after c.identity h (wrote_served c.plant c.port.numbers row w) → Writes change
   unfolding wrote_served card_after flag_stands
-  permit_writes h row w change (Permits.Write done) e a card =
+  permit_writes h row w change (Ok done) e a card =
       let k = written_permits c.plant row w done e in
       let same : change ≡ record { row = record { 0 = row }; word = w } = sym (ap (change_or change) a) ∙ k.0 in
       let answer : permitted (written c.plant row w).permit ≡ Answers.Written done = ap permitted e in
@@ -95,7 +95,7 @@ module _ (c : Card) (sound : Sound c) (r : Received) (then : Sound r.card) where
             (ap (λ (d : Card). d.port.numbers) card ∙ ap (λ (x : Answer). port_after x c.port.numbers) answer) (ap (λ (d : Card). d.identity) card)),
         λ some. absurd (some none),
       )
-  permit_writes h row w change (Permits.Refused x) e a card = absurd (other_case _ _ a (λ z. omega (arith, z)))
+  permit_writes h row w change (Err x) e a card = absurd (other_case _ _ a (λ z. omega (arith, z)))
 
   stop_writes : (h : Pending) (adr : ℕ) (row : Row) (w : ℕ) (change : Change) → Nfo.stops c.plant adr row.0 w ≡ true → protocol_of c ≡ 0
       → Answers.Written (record { row = row; word = w }) ≡ Answers.Written change → r.card ≡ card_after c.identity h (Nfo.stop_served c.plant c.port.numbers row w) → Writes change
@@ -123,9 +123,9 @@ module _ (c : Card) (sound : Sound c) (r : Received) (then : Sound r.card) where
   came_writes nfo h s change (stop adr row w t) serial a card = stop_writes h adr row w change t (serial refl) a card
 
   -- ---- a done read
-  permit_not_told : (k : Permit) (row : Row) (w : ℕ) → permitted k ≡ Answers.Told row w → ⊥
-  permit_not_told (Permits.Write change) row w a = other_case _ _ a (λ z. omega (arith, z))
-  permit_not_told (Permits.Refused x) row w a = other_case _ _ a (λ z. omega (arith, z))
+  permit_not_told : (k : Result Change Refusal) (row : Row) (w : ℕ) → permitted k ≡ Answers.Told row w → ⊥
+  permit_not_told (Ok change) row w a = other_case _ _ a (λ z. omega (arith, z))
+  permit_not_told (Err x) row w a = other_case _ _ a (λ z. omega (arith, z))
 
   came_tells : (nfo : Bool) (h : Pending) (s : Served) (n w : ℕ) → Came c.plant c.port.numbers nfo s → s.answer ≡ Answers.Told (record { 0 = n }) w → r.card ≡ card_after c.identity h s
       → ReadLeaves c n r.card
@@ -142,9 +142,9 @@ module _ (c : Card) (sound : Sound c) (r : Received) (then : Sound r.card) where
 
 -- ---- a part of the identity was told
 module _ (c : Card) (r : Received) where
-  permit_no_part : (k : Permit) (part : Part) → permitted k ≡ Answers.Identified part → ⊥
-  permit_no_part (Permits.Write change) part a = other_case _ _ a (λ z. omega (arith, z))
-  permit_no_part (Permits.Refused x) part a = other_case _ _ a (λ z. omega (arith, z))
+  permit_no_part : (k : Result Change Refusal) (part : Part) → permitted k ≡ Answers.Identified part → ⊥
+  permit_no_part (Ok change) part a = other_case _ _ a (λ z. omega (arith, z))
+  permit_no_part (Err x) part a = other_case _ _ a (λ z. omega (arith, z))
 
   came_identifies : (nfo : Bool) (h : Pending) (s : Served) (part : Part) → Came c.plant c.port.numbers nfo s → s.answer ≡ Answers.Identified part
       → r.card ≡ card_after c.identity h s → besides r.card ≡ besides (card_sum 0 c)

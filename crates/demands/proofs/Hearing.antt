@@ -1,4 +1,5 @@
 -- What a master reads as a reply is one, and every reply is read. Assumes nothing.
+use Rattle.std.proofs.Common.{Option, Some, None}
 use mathlib.Core.Path.{◌≡◌, refl, ap, ◌∙◌}
 use mathlib.Core.Logic.{◌⊎◌, inl, inr}
 use mathlib.Core.List.{List}
@@ -33,48 +34,48 @@ zero_or_14 n Is two only back = ((only, back), (λ e is. absurd (omega (arith, e
     go not-it (inr e) = e
 
 -- ---- NFO serial
-serial_either : (r : Serial.Reply) → (serial.reply_number r ≡ 0) ⊎ (serial.reply_number r ≡ 14)
-serial_either (Serials.Told a e w) = inl refl
-serial_either (Serials.Acknowledged a) = inl refl
-serial_either (Serials.Refused a) = inl refl
-serial_either Serials.NotAReply = inr refl
+serial_either : (r : Option Serial.Reply) → (serial.reply_number r ≡ 0) ⊎ (serial.reply_number r ≡ 14)
+serial_either (Some (Serials.Told a e w)) = inl refl
+serial_either (Some (Serials.Acknowledged a)) = inl refl
+serial_either (Some (Serials.Refused a)) = inl refl
+serial_either None = inr refl
 
-serial_only : (s : List ℕ) (r : Serial.Reply) → read_of s ≡ r → serial.reply_number r ≡ 0 → IsSerial r s
-serial_only s (Serials.Told a e w) k h = told_only s a e w k
-serial_only s (Serials.Acknowledged a) k h = acknowledged_only s a k
-serial_only s (Serials.Refused a) k h = refused_only s a k
-serial_only s Serials.NotAReply k h = absurd (omega (arith, h))
+serial_only : (s : List ℕ) (r : Option Serial.Reply) → read_of s ≡ r → serial.reply_number r ≡ 0 → IsSerial r s
+serial_only s (Some (Serials.Told a e w)) k h = told_only s a e w k
+serial_only s (Some (Serials.Acknowledged a)) k h = acknowledged_only s a k
+serial_only s (Some (Serials.Refused a)) k h = refused_only s a k
+serial_only s None k h = absurd (omega (arith, h))
 
-serial_zero : (s : List ℕ) (r : Serial.Reply) → IsSerial r s → serial.reply_number r ≡ 0
-serial_zero s (Serials.Told a e w) h = refl
-serial_zero s (Serials.Acknowledged a) h = refl
-serial_zero s (Serials.Refused a) h = refl
-serial_zero s Serials.NotAReply h = absurd h
+serial_zero : (s : List ℕ) (r : Option Serial.Reply) → IsSerial r s → serial.reply_number r ≡ 0
+serial_zero s (Some (Serials.Told a e w)) h = refl
+serial_zero s (Some (Serials.Acknowledged a)) h = refl
+serial_zero s (Some (Serials.Refused a)) h = refl
+serial_zero s None h = absurd h
 
 own : (a : ℕ) → a + 32 - 32 ≡ a
 own a = omega arith
 
-serial_every : (r : Serial.Reply) (s : List ℕ) → IsSerial r s → read_of s ≡ r
-serial_every (Serials.Told a e w) s (l, k, m, number, value, p, v, h) =
-    ap read_of h ∙ spelt_read (a + 32) e.0 w number value p v (adr_fits a l) k m ∙ ap (λ (x : ℕ). Serials.Told x e w) (own a)
-serial_every (Serials.Acknowledged a) s (l, h) = ap read_of h ∙ ack_read (a + 32) (adr_fits a l) ∙ ap Serials.Acknowledged (own a)
-serial_every (Serials.Refused a) s (l, h) = ap read_of h ∙ nak_read (a + 32) (adr_fits a l) ∙ ap Serials.Refused (own a)
-serial_every Serials.NotAReply s h = absurd h
+serial_every : (r : Option Serial.Reply) (s : List ℕ) → IsSerial r s → read_of s ≡ r
+serial_every (Some (Serials.Told a e w)) s (l, k, m, number, value, p, v, h) =
+    ap read_of h ∙ spelt_read (a + 32) e.0 w number value p v (adr_fits a l) k m ∙ ap (λ (x : ℕ). Some (Serials.Told x e w)) (own a)
+serial_every (Some (Serials.Acknowledged a)) s (l, h) = ap read_of h ∙ ack_read (a + 32) (adr_fits a l) ∙ ap (λ (x : ℕ). Some (Serials.Acknowledged x)) (own a)
+serial_every (Some (Serials.Refused a)) s (l, h) = ap read_of h ∙ nak_read (a + 32) (adr_fits a l) ∙ ap (λ (x : ℕ). Some (Serials.Refused x)) (own a)
+serial_every None s h = absurd h
 
 -- ---- Modbus
-modbus_either : (r : Reply) → (reply_number r ≡ 0) ⊎ (reply_number r ≡ 14)
-modbus_either (Replies.Data a f n) = inl refl
-modbus_either (Replies.One a r w) = inl refl
-modbus_either (Replies.Many a r n) = inl refl
-modbus_either (Replies.Exception a f c) = inl refl
-modbus_either Replies.NotAReply = inr refl
+modbus_either : (r : Option Reply) → (reply_number r ≡ 0) ⊎ (reply_number r ≡ 14)
+modbus_either (Some (Replies.Data a f n)) = inl refl
+modbus_either (Some (Replies.One a r w)) = inl refl
+modbus_either (Some (Replies.Many a r n)) = inl refl
+modbus_either (Some (Replies.Exception a f c)) = inl refl
+modbus_either None = inr refl
 
-modbus_zero : (r : Reply) → IsReply r → reply_number r ≡ 0
-modbus_zero (Replies.Data a f n) h = refl
-modbus_zero (Replies.One a r w) h = refl
-modbus_zero (Replies.Many a r n) h = refl
-modbus_zero (Replies.Exception a f c) h = refl
-modbus_zero Replies.NotAReply h = absurd h
+modbus_zero : (r : Option Reply) → IsReply r → reply_number r ≡ 0
+modbus_zero (Some (Replies.Data a f n)) h = refl
+modbus_zero (Some (Replies.One a r w)) h = refl
+modbus_zero (Some (Replies.Many a r n)) h = refl
+modbus_zero (Some (Replies.Exception a f c)) h = refl
+modbus_zero None h = absurd h
 
 modbus_only : (made : ℕ → List ℕ → List ℕ) (s : List ℕ) (h : Heard) → (reply_number h.reply ≡ 0 → IsMessage made s h) → ZeroOr14 (reply_number h.reply) (IsMessage made s h)
 modbus_only made s h only = zero_or_14 (reply_number h.reply) (IsMessage made s h) (modbus_either h.reply) only (λ is. modbus_zero h.reply is.0)

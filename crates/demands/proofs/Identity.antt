@@ -1,4 +1,5 @@
 -- A master that asks who the card is, over RTU and over ASCII, is told the objects from the first to the last, or the serial number. Assumes nothing.
+use Rattle.std.proofs.Common.{Option, Some}
 use mathlib.Core.Path.{◌≡◌, refl, ap, ap₂, ◌∙◌, subst}
 use mathlib.Core.Bool.{Bool, true, false}
 use mathlib.Core.List.{List, [], ◌∷◌}
@@ -14,7 +15,6 @@ use Rattle.base.proofs.Tests.{both_false}
 use Rattle.identity.specs.Identity.{Identity, Object, object, objects, revision, model, serial, chosen, up_to, objects_asked, listed, objects_unit, part_unit}
 use Rattle.identity.specs.declared.Part.{Part}
 use Rattle.identity.specs.declared.Part.TheVariants as Parts
-use Rattle.identity.specs.declared.Named.TheVariants as Names
 use Rattle.port.specs.Port.{Numbers}
 use Rattle.drive.specs.Plant.{Plant, station}
 use Rattle.answers.specs.declared.Answer.TheVariants as Answered
@@ -28,8 +28,6 @@ use Rattle.modbus.specs.declared.replies.Answer.TheVariants as Units
 use Rattle.modbus.specs.Answer.{unit_of}
 use Rattle.modbus_service.specs.Serve as Modbus
 use Rattle.modbus_service.specs.Reply.{Exchanged, replied_by, replied, exchanged}
-use Rattle.modbus_service.specs.declared.Reply.{Reply}
-use Rattle.modbus_service.specs.declared.Reply.TheVariants.{Data}
 use Rattle.rtu.specs.Rtu.{address_in, rtu_of}
 use Rattle.rtu.proofs.RoundTrip as Frame
 use Rattle.ascii.specs.Ascii.{bytes_in, ascii_of}
@@ -44,6 +42,7 @@ use Rattle.demands.specs.Kept.{Sound}
 use Rattle.demands.specs.Identity.{text, Objects, none, next, Range, basic, basic_outside, regular, regular_outside, one, asks_objects, TellsObjects, asks_serial, TellsSerial, Asked, WhoAreYou}
 use Rattle.demands.proofs.Streamed.{ascii_streamed}
 use Rattle.demands.proofs.Asking.{whole_outcome, whole_reply}
+use Rattle.modbus.specs.declared.replies.Answer as Replied
 
 -- ---- the objects
 -- one after the other, from number k up to 06h
@@ -108,7 +107,7 @@ in_range code object first last (regular h) = (omega arith, omega arith, omega a
 in_range code object first last (regular_outside h) = (omega arith, omega arith, omega arith)
 in_range code object first last (one h) = (omega arith, omega arith, omega arith)
 
-asked_range : (code object first last : ℕ) → Range code object first last → objects_asked code object ≡ Names.Part (Parts.Objects code first last)
+asked_range : (code object first last : ℕ) → Range code object first last → objects_asked code object ≡ Some (Parts.Objects code first last)
 unfolding objects_asked up_to
 asked_range code object first last (basic h) = simp (le-ltb 2 object h)
 asked_range code object first last (basic_outside h) = simp (lt-ltb 2 object h)
@@ -153,7 +152,7 @@ module _ (c : Card) (sound : Sound c) where
   says_serial = rw (not_all, to_us)
 
   -- the reply's unit is that part
-  replies : (u : List ℕ) (part : Part) → Says u part → (exchanged p q a u).reply ≡ Data (Units.Identity part)
+  replies : (u : List ℕ) (part : Part) → Says u part → (exchanged p q a u).reply ≡ Some (Units.Identity part)
   unfolding exchanged replied replied_by
   replies u part e = rw (e, not_all)
 
@@ -178,7 +177,7 @@ module _ (c : Card) (sound : Sound c) where
     unfolding unit_of
     rtu_reply =
         ap (λ (r : Received). r.reply) taken ∙ ap (λ (x : Exchanged). Rtu.frame_of c.identity (address_in f) x.reply) exchange
-        ∙ ap₂ (λ (n : ℕ) (r : Reply). Rtu.frame_of c.identity n r) (Frame.own_address a u) (replies u part e)
+        ∙ ap₂ (λ (n : ℕ) (r : Option Replied.Answer). Rtu.frame_of c.identity n r) (Frame.own_address a u) (replies u part e)
 
   -- ---- over ASCII
   module _ (speaks : protocol_of c ≡ 2) (room : ℕ) (enough : LongEnough c room) (u : List ℕ) (some : 1 ≤ length u) (most : length u ≤ 253) (below : Bytes (a ∷ u)) (part : Part)

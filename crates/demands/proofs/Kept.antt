@@ -1,4 +1,5 @@
 -- Each routine keeps a card sound: its plant number by number, and at its port what is pending a beginning, the protocol, and the time sum. Assumes nothing.
+use Rattle.std.proofs.Common.{Result}
 use mathlib.Core.Path.{◌≡◌, refl, sym, ◌∙◌}
 use mathlib.Core.Bool.{Bool, true, not}
 use mathlib.Core.List.{List, []}
@@ -27,7 +28,6 @@ use Rattle.reading.specs.Read.{Told, told}
 use Rattle.permit.specs.Refusals.{read_only, allowed, permitted}
 use Rattle.permit.specs.Refusals as Refusals
 use Rattle.permit.specs.Permit.{permit_of}
-use Rattle.permit.specs.declared.Permit.{Permit}
 use Rattle.service.specs.Write.{after, written}
 use Rattle.service.specs.Serving.{Served, told_served, wrote_served}
 use Rattle.service.specs.Serving as Serving
@@ -68,6 +68,8 @@ use Rattle.demands.proofs.Each.{each_tick, step_identity}
 use Rattle.demands.proofs.Addressed.{healed_never, step_own}
 use Rattle.demands.proofs.Host.{restarted_address}
 use Rattle.demands.proofs.KeptPlant.{Fits, acknowledged_keeps, without14_keeps, stopped_keeps, applied_keeps, raised_keeps, ended_keeps, active_keeps, measured_keeps, fault_keeps, restarted_keeps, started_sound}
+use Rattle.answers.specs.declared.Change.{Change}
+use Rattle.answers.specs.declared.Refusal.{Refusal}
 
 -- ---- the port's numbers, for a protocol n
 abbrev SoundPort : ℕ → Numbers → Type 0
@@ -143,7 +145,7 @@ module _ (n : ℕ) (p : Plant) (q : Numbers) (old : SoundCore n (record { port =
       (λ _. pick_both After (not (permitted p row w)) (λ _. again)
       (λ may. (applied_keeps (with_sum 0 q) (sum_0 n q old.1) p again.0 row w (not-false (allowed p row w) can) calm (not-false (permitted p row w) may), again.1))))))
     where
-      After : Permit → Type 0
+      After : Result Change Refusal → Type 0
       After x = Leaves (record { plant = after x p; port = q; answer = Serving.permitted x })
 
   -- so every message does

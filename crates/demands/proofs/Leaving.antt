@@ -1,4 +1,5 @@
 -- What a call leaves, by its number. Assumes nothing.
+use Rattle.std.proofs.Common.{Option, None}
 use mathlib.Core.Path.{◌≡◌, refl, ap, ◌∙◌}
 use mathlib.Core.Logic.{inl, inr}
 use mathlib.Core.Bool.{Bool, true, false, true≢false}
@@ -34,8 +35,6 @@ use Rattle.rtu.specs.Rtu.{frame_holds, address_in, unit_in}
 use Rattle.ascii.specs.Ascii.{bytes_in, unit_among}
 use Rattle.modbus_service.specs.Serve as Modbus
 use Rattle.modbus_service.specs.Reply as ModbusReply
-use Rattle.modbus_service.specs.declared.Reply.{Reply}
-use Rattle.modbus_service.specs.declared.Reply.TheVariants.{Nothing}
 use Rattle.modbus_service.proofs.Laws.{served_keeps}
 use Rattle.turn.specs.Turn.{Received, too_short, waiting, card_after, answered}
 use Rattle.turn.specs.Stream.{Stream, streamed}
@@ -48,6 +47,7 @@ use Rattle.demands.specs.Demand1.{Leaves}
 use Rattle.demands.specs.Calls.{besides}
 use Rattle.demands.proofs.Serving.{nfo_each}
 use Rattle.demands.proofs.Numbered.{served_number}
+use Rattle.modbus.specs.declared.replies.Answer as Units
 
 -- ---- serving: a number other than 0 changes nothing
 module _ (p : Plant) (q : Numbers) where
@@ -66,9 +66,9 @@ nfo_silent : (m : Message) (x : Answer) → x ≡ NotOurs → NfoReply.replied m
 unfolding NfoReply.replied NfoReply.replied_by
 nfo_silent m x e = rw e (pick_both (λ (l : List ℕ). l ≡ []) (eqb (NfoReply.adr_in m) 0x7F) (λ _. refl) (λ _. refl))
 
-modbus_silent : (a : ℕ) (u : List ℕ) (x : Answer) → x ≡ NotOurs → ModbusReply.replied a u x ≡ Nothing
+modbus_silent : (a : ℕ) (u : List ℕ) (x : Answer) → x ≡ NotOurs → ModbusReply.replied a u x ≡ None
 unfolding ModbusReply.replied ModbusReply.replied_by
-modbus_silent a u x e = rw e (pick_both (λ (y : Reply). y ≡ Nothing) (Modbus.to_all a) (λ _. refl) (λ _. refl))
+modbus_silent a u x e = rw e (pick_both (λ (y : Option Units.Answer). y ≡ None) (Modbus.to_all a) (λ _. refl) (λ _. refl))
 
 -- ---- the cases of a call
 pub refusal_within : (x : Refusal) → (2 ≤ refusal_number x) × (refusal_number x ≤ 9)

@@ -1,4 +1,5 @@
 -- Small letters are taken, and capitals are written. Assumes nothing.
+use Rattle.std.proofs.Common.{Option, Some, None}
 use mathlib.Core.Path.{◌≡◌, refl, sym, ap, subst, ◌∙◌}
 use mathlib.Core.List.{List, [], ◌∷◌}
 use Prim.Native.Nat.{ℕ}
@@ -24,8 +25,6 @@ use Rattle.ascii.proofs.Message.{formed_in_capitals, bytes_in_capitals, text_cap
 use Rattle.ascii.proofs.Lawful.{ascii_lawful}
 use Rattle.identity.specs.Identity.{Identity}
 use Rattle.modbus_service.specs.Reply.{sent_by}
-use Rattle.modbus_service.specs.declared.Reply.{Reply}
-use Rattle.modbus_service.specs.declared.Reply.TheVariants.{Nothing, Data}
 use Rattle.card.specs.State.{protocol_of}
 use Rattle.card.specs.declared.state.Card.{Card}
 use Rattle.turn.specs.Turn.{Received, waiting}
@@ -40,6 +39,7 @@ use Rattle.demands.specs.Calls.{nfo_serial, modbus_ascii}
 use Rattle.demands.specs.Letters.{TakesSmall, InCapitals, Letters}
 use Rattle.demands.proofs.Demand3.{demand_3}
 use Rattle.demands.proofs.Taking.{message_read}
+use Rattle.modbus.specs.declared.replies.Answer as Units
 
 takes : TakesSmall
 takes =
@@ -103,9 +103,9 @@ made : (address : ℕ) (unit : List ℕ) → InCapitals (ascii_of address unit)
 unfolding ascii_of
 made address unit = text_capitals _
 
-by_reply : (i : Identity) (address : ℕ) (reply : Reply) → InCapitals (sent_by ascii_of i address reply)
-by_reply i address Nothing = nothing
-by_reply i address (Data answer) = made address _
+by_reply : (i : Identity) (address : ℕ) (reply : Option Units.Answer) → InCapitals (sent_by ascii_of i address reply)
+by_reply i address None = nothing
+by_reply i address (Some answer) = made address _
 
 ascii_reply : (c : Card) → protocol_of c ≡ 2 → (bytes : List ℕ) (room : ℕ) → InCapitals (received c bytes room).reply
 unfolding ascii_received

@@ -1,4 +1,5 @@
 -- A message that writes a row, where it is done, wrote that row and that word. Assumes nothing.
+use Rattle.std.proofs.Common.{Some, Result, Ok, Err}
 use mathlib.Core.Path.{◌≡◌, refl, sym, ap, ◌∙◌}
 use mathlib.Core.Bool.{Bool, true, false, not}
 use mathlib.Core.List.{List}
@@ -16,15 +17,11 @@ use Rattle.drive.specs.Plant.{Plant, station}
 use Rattle.answers.specs.declared.Answer.{Answer}
 use Rattle.answers.specs.declared.Answer.TheVariants as Answers
 use Rattle.answers.specs.Answer.{answer_number}
-use Rattle.permit.specs.declared.Permit.{Permit}
-use Rattle.permit.specs.declared.Permit.TheVariants.{Write, Refused}
 use Rattle.permit.specs.Refusals.{read_only}
 use Rattle.service.specs.Write.{written}
 use Rattle.service.specs.Serving.{Served, permitted, wrote_served}
 use Rattle.service.proofs.Stores.{written_permits}
 use Rattle.nfo_parts.specs.declared.message.Message.TheVariants.{Select}
-use Rattle.nfo_parts.specs.declared.message.Parameter.TheVariants.{Number}
-use Rattle.nfo_parts.specs.declared.message.Value.TheVariants.{Word}
 use Rattle.nfo_service.specs.Serve as Nfo
 use Rattle.modbus_words.specs.Words.{word_at, word_bytes, long_at, long_bytes}
 use Rattle.modbus.specs.Request.{span, request_of}
@@ -55,6 +52,8 @@ use Rattle.demands.proofs.Streamed.{nfo_streamed, ascii_streamed}
 use Rattle.demands.proofs.Leaving.{refusal_within}
 use Rattle.demands.proofs.Demand2.{requests}
 use Rattle.demands.proofs.Asking.{whole_outcome}
+use Rattle.answers.specs.declared.Change.{Change}
+use Rattle.answers.specs.declared.Refusal.{Refusal}
 
 -- ---- the register bytes of a row that holds a word are read as that word
 long_value : (first : Register) (n w : ℕ) → long_at (many_unit first (register_bytes n w)) 6 ≡ w
@@ -77,11 +76,11 @@ module _ (p : Plant) (q : Numbers) (n w : ℕ) where
   unfolding wrote_served
   wrote_names = go (written p n w).permit refl
     where
-      go : (k : Permit) → (written p n w).permit ≡ k → answer_number (permitted k) ≡ 0 → permitted k ≡ change
-      go (Write change) e z = ap Answers.Written (written_permits p n w change e).0
-      go (Refused x) e z = absurd (omega (arith, z, (refusal_within x).0))
+      go : (k : Result Change Refusal) → (written p n w).permit ≡ k → answer_number (permitted k) ≡ 0 → permitted k ≡ change
+      go (Ok change) e z = ap Answers.Written (written_permits p n w change e).0
+      go (Err x) e z = absurd (omega (arith, z, (refusal_within x).0))
 
-  select_names : (adr e : ℕ) → row_of_e e ≡ row n → Names (Nfo.served p q (Select adr (Number (record { 0 = e })) (Word w)))
+  select_names : (adr e : ℕ) → row_of_e e ≡ row n → Names (Nfo.served p q (Select adr (Some (record { 0 = e })) (Some w)))
   unfolding Nfo.served Nfo.select_served Nfo.row_named Nfo.row_selected
   select_names adr e k =
       rw k
@@ -125,7 +124,7 @@ unfolding exchanged
 names c n w m (select address e speaks can h l k) room big =
     let p : Plant = c.plant in
     let q : Numbers = c.port.numbers in
-    named p q n w _ (Nfo.served p q (Select (address + 32) (Number (record { 0 = e })) (Word w)))
+    named p q n w _ (Nfo.served p q (Select (address + 32) (Some (record { 0 = e })) (Some w)))
     (whole_outcome nfo_serial nfo_stream nfo_streamed c speaks (select_of address e w) (select_formed address e w (selectable_is address can)) room big
     ∙ ap (λ x. Outcomes.Served (Nfo.served p q x).answer) (select_heard address e w h l)) (select_names p q n w (address + 32) e k)
 names c n w m (rtu address ask registers speaks can k) room big =

@@ -1,4 +1,5 @@
 -- The number of what is served, and of a call, is that of the first line of its order that applies. Assumes nothing.
+use Rattle.std.proofs.Common.{Option, Result, Err}
 use mathlib.Core.Path.{◌≡◌, refl, sym, ap, subst, ◌∙◌}
 use mathlib.Core.Logic.{◌⊎◌, inl, inr, ◌↔◌}
 use mathlib.Core.Bool.{Bool, true, false, not}
@@ -16,8 +17,6 @@ use Rattle.drive.specs.Plant.{Plant, station}
 use Rattle.answers.specs.declared.Answer.{Answer}
 use Rattle.answers.specs.declared.Answer.TheVariants.{Refused}
 use Rattle.answers.specs.Answer.{refusal_number, answer_number}
-use Rattle.permit.specs.declared.Permit.{Permit}
-use Rattle.permit.specs.declared.Permit.TheVariants as Permits
 use Rattle.permit.specs.Refusals.{read_only, read_line, write_lines}
 use Rattle.permit.specs.Permit.{permit_of}
 use Rattle.service.specs.Write.{written}
@@ -26,7 +25,6 @@ use Rattle.pending.specs.Held.{held}
 use Rattle.pending.specs.Scanning.{Scan}
 use Rattle.nfo_parts.specs.declared.message.Message.{Message}
 use Rattle.nfo_parts.specs.declared.message.Message.TheVariants.{Enquiry, Select}
-use Rattle.nfo_parts.specs.declared.message.Value.{Value}
 use Rattle.nfo_parts.specs.Parts.{message_of}
 use Rattle.nfo_service.specs.Serve as Nfo
 use Rattle.card.specs.Outcome.{outcome_number}
@@ -50,6 +48,8 @@ use Rattle.ascii_port.specs.Receive.{ascii_stream, ascii_received}
 use Rattle.receive.specs.Receive.{received}
 use Rattle.demands.specs.Orders.{Gives, nfo_order, change_lines, modbus_order, scan_of, serial_order, ascii_order, rtu_order, call_order}
 use Rattle.demands.specs.Demand1.{number_in}
+use Rattle.answers.specs.declared.Change.{Change}
+use Rattle.answers.specs.declared.Refusal.{Refusal}
 
 -- ---- orders, and the number of the first line that applies
 module _ {A : Type 0} (number : A → ℕ) where
@@ -95,7 +95,7 @@ served_number s = answer_number s.answer
 -- a write, by 3 to 7
 wrote_number : (p : Plant) (q : Numbers) (row w : ℕ) → served_number (wrote_served p q row w) ≡ first_of (saying answer_number (saying Refused (read_line row ∷ write_lines p row w))) 0
 unfolding wrote_served written permit_of
-wrote_number p q row w = first_by refusal_number (λ (k : Permit). answer_number (permitted k)) Permits.Refused (λ r. refl) (read_line row ∷ write_lines p row w) _
+wrote_number p q row w = first_by refusal_number (λ (k : Result Change Refusal). answer_number (permitted k)) Err (λ r. refl) (read_line row ∷ write_lines p row w) _
 
 -- line 3 need not be read again, and the stop passes by the lines from 4 on
 again : (r h s : Bool) (a b : ℕ) (ls : List (Line Answer))
@@ -105,7 +105,7 @@ again false h true a b ls = refl
 again false h false a b ls = refl
 
 module _ (p : Plant) (q : Numbers) (adr : ℕ) where
-  row_number : (row : Row) (v : Value)
+  row_number : (row : Row) (v : Option ℕ)
       → served_number (Nfo.row_selected p q adr row v)
       ≡ first_of (saying answer_number (Nfo.row_lines row v ++ pick (Nfo.stops p adr row.0 (Nfo.the_word v)) [] (saying Refused (write_lines p row.0 (Nfo.the_word v))))) 0
   unfolding Nfo.row_selected

@@ -1,4 +1,5 @@
 -- A card on NFO serial can be asked: whatever comes to it, its SiAdr stays 1 to 94, and an ENQUIRY of Inv St at SiAdr or at 0 is done. Assumes nothing.
+use Rattle.std.proofs.Common.{Some}
 use mathlib.Core.Path.{◌≡◌, refl, ap, ◌∙◌}
 use mathlib.Core.Bool.{true}
 use Prim.Native.Nat.{ℕ, ◌+◌, ◌≤◌, ◌<◌}
@@ -19,7 +20,6 @@ use Rattle.nfo_parts.specs.Parts.{message_of}
 use Rattle.nfo_parts.specs.Replies.{digits_of, reply_of}
 use Rattle.nfo_parts.specs.declared.message.Message.{Message}
 use Rattle.nfo_parts.specs.declared.message.Message.TheVariants.{Enquiry}
-use Rattle.nfo_parts.specs.declared.message.Parameter.TheVariants.{Number}
 use Rattle.answers.specs.declared.Answer.{Answer}
 use Rattle.nfo_service.specs.Serve as Nfo
 use Rattle.nfo_service.specs.Reply.{replied_by, replied}
@@ -47,7 +47,7 @@ run_speaks c d (then {d = e} step later) = run_speaks e d later ∙ step_protoco
 -- ---- an ENQUIRY of Inv St, at an address that is ours
 module _ (d : Card) (speaks : Speaks nfo_serial d) (a : ℕ) (low : a < 95) (us : Nfo.to_us d.plant (a + 32) ≡ true) where
   abbrev asked : Message
-  asked = Enquiry (a + 32) (Number (record { 0 = 0xE9 }))
+  asked = Enquiry (a + 32) (Some (record { 0 = 0xE9 }))
 
   abbrev status : Answer
   status = tale d.plant d.port.numbers Inv-St

@@ -1,4 +1,5 @@
 -- What the card replies over Modbus is one of the answers that a master reads, and is heard as what was answered. Assumes nothing.
+use Rattle.std.proofs.Common.{Option, Some, None}
 use mathlib.Core.Path.{◌≡◌, refl, sym, ap, subst, ◌∙◌}
 use mathlib.Core.Logic.{inl, inr}
 use mathlib.Core.Bool.{Bool, true, false}
@@ -38,8 +39,6 @@ use Rattle.modbus.specs.declared.replies.Answer.TheVariants.{Word, Long, Identit
 use Rattle.modbus_service.specs.Serve.{to_all, served}
 use Rattle.modbus_service.specs.Reply.{exception_of, registers_told, head_of, replied_by, replied, exchanged, sent_by}
 use Rattle.modbus_service.specs.Reply as Said
-use Rattle.modbus_service.specs.declared.Reply.{Reply}
-use Rattle.modbus_service.specs.declared.Reply.TheVariants.{Nothing, Data}
 use Rattle.modbus.proofs.Units.{InWidth}
 use Rattle.rtu.specs.Rtu.{frame_holds, address_in, unit_in, rtu_of}
 use Rattle.rtu.proofs.Replies.{rtu_length}
@@ -67,9 +66,9 @@ use Rattle.demands.proofs.OneCall.{ascii_takes}
 use Rattle.demands.proofs.Ears.{one_answer, bad_not, told_not_1, refused_not_1, unanswered, answered, answered_by}
 
 -- ---- so what is replied is one of the answers
-abbrev ReplyIs : Reply → Type 0
-ReplyIs Nothing = Unit {0}
-ReplyIs (Data x) = IsAnswer x
+abbrev ReplyIs : Option Units.Answer → Type 0
+ReplyIs None = Unit {0}
+ReplyIs (Some x) = IsAnswer x
 
 code : (x : Refusal) → Within 1 4 (exception_of x)
 code Refusals.NoRow = (omega arith, omega arith)
@@ -115,11 +114,11 @@ module _ (p : Plant) (q : Numbers) (a : ℕ) (u : List ℕ) where
   unfolding exchanged replied replied_by
   reply_is = pick_both ReplyIs (to_all a) (λ _. tt) (λ _. answered_is (request_of u) (served p q a u).answer (made u) (served_fits p q a u))
 
-  answers : (x : Units.Answer) → (exchanged p q a u).reply ≡ Data x → IsAnswer x
+  answers : (x : Units.Answer) → (exchanged p q a u).reply ≡ Some x → IsAnswer x
   answers x e = subst ReplyIs e reply_is
 
   -- from our own address, which is 1 to 247
-  ours : (x : Units.Answer) → Within 1 247 (station p) → (exchanged p q a u).reply ≡ Data x → Within 1 247 a
+  ours : (x : Units.Answer) → Within 1 247 (station p) → (exchanged p q a u).reply ≡ Some x → Within 1 247 a
   ours x h e = let s : a ≡ station p = from_us p q a u x e in (omega (arith, s, h.0), omega (arith, s, h.1))
 
 -- with its numbers in their widths, where the unit came as a message's bytes
@@ -127,7 +126,7 @@ unit_bytes : (m : List ℕ) → Bytes (unit_among (bytes_in m))
 unfolding unit_among
 unit_bytes m = below_drop 256 1 _ (below_take 256 (length (bytes_in m) - 1) (bytes_in m) (decoded_below m))
 
-widths : (p : Plant) (q : Numbers) (a : ℕ) (m : List ℕ) (x : Units.Answer) → (exchanged p q a (unit_among (bytes_in m))).reply ≡ Data x → InWidth x
+widths : (p : Plant) (q : Numbers) (a : ℕ) (m : List ℕ) (x : Units.Answer) → (exchanged p q a (unit_among (bytes_in m))).reply ≡ Some x → InWidth x
 unfolding exchanged
 widths p q a m x e = subst ReplyIn e (reply_in a (unit_among (bytes_in m)) _ (unit_bytes m) (served_in p q a (unit_among (bytes_in m)) (unit_bytes m)))
 
@@ -142,7 +141,7 @@ registers_back a f first n row w = go (eqb (line_at row.0).registers 2)
     go : (t : Bool)
         → let y : Units.Answer = pick t (Long f (w % 0x100000000)) (Word f (w % 0x10000)) in
         let ws : List ℕ = pick t (w % 0x100000000 % 0x10000 ∷ w % 0x100000000 / 0x10000 ∷ []) (w % 0x10000 ∷ []) in
-        heard (reply_to a y) (words_told y) ≡ heard (Replies.Data a f (length ws)) ws
+        heard (reply_to a y) (words_told y) ≡ heard (Some (Replies.Data a f (length ws))) ws
     go true = refl
     go false = refl
 
@@ -181,11 +180,11 @@ module _ (made_of : ℕ → List ℕ → List ℕ) (there : (b : ℕ) (v : List 
     by_unit x y ours zero e b = answered E m x (made_of a (unit_of i y)) number silence (ap number (back x) ∙ zero) (all ∙ one) ours (e ∙ b ∙ sym (back x))
 
     -- a part of the identity is told, and the master hears no reply of those that it knows
-    by_part : (part : Part) → E.hear (made_of a (unit_of i (Identity part))) ≡ heard Replies.NotAReply [] → AnswerHeard E m (Answers.Identified part) (made_of a (unit_of i (Identity part)))
+    by_part : (part : Part) → E.hear (made_of a (unit_of i (Identity part))) ≡ heard None [] → AnswerHeard E m (Answers.Identified part) (made_of a (unit_of i (Identity part)))
     by_part part e =
         answered_by E m (Answers.Identified part) (made_of a (unit_of i (Identity part))) (there a _) (all ∙ one) (λ k. told_not_1 (ap answer_number k)) (e ∙ sym (back (Answers.Identified part)))
 
-    by_request : (r : Request) → request_of u ≡ r → (x : Answer) → Fits r x → ((y : Units.Answer) → Said.answered (head_of r) x ≡ Data y → E.hear (made_of a (unit_of i y)) ≡ heard (reply_to a y) (words_told y))
+    by_request : (r : Request) → request_of u ≡ r → (x : Answer) → Fits r x → ((y : Units.Answer) → Said.answered (head_of r) x ≡ Some y → E.hear (made_of a (unit_of i y)) ≡ heard (reply_to a y) (words_told y))
         → AnswerHeard E m x (sent_by made_of i a (Said.answered (head_of r) x))
     by_request r k Answers.NotOurs fits hears = unanswered E m Answers.NotOurs [] (inr refl) refl
     by_request r k (Answers.Refused x) fits hears =
@@ -216,7 +215,7 @@ module _ (made_of : ℕ → List ℕ → List ℕ) (there : (b : ℕ) (v : List 
     by_request (Unknown f) k (Answers.Written change) fits hears = absurd fits
 
   -- a unit's reply, on any plant
-  pub unit_heard : (p : Plant) (q : Numbers) → ((y : Units.Answer) → (exchanged p q a u).reply ≡ Data y → E.hear (made_of a (unit_of i y)) ≡ heard (reply_to a y) (words_told y))
+  pub unit_heard : (p : Plant) (q : Numbers) → ((y : Units.Answer) → (exchanged p q a u).reply ≡ Some y → E.hear (made_of a (unit_of i y)) ≡ heard (reply_to a y) (words_told y))
       → AnswerHeard E m (served p q a u).answer (sent_by made_of i a (exchanged p q a u).reply)
   unfolding exchanged replied replied_by
   unit_heard p q hears = go (eqb a 0) refl hears
@@ -225,8 +224,8 @@ module _ (made_of : ℕ → List ℕ → List ℕ) (there : (b : ℕ) (v : List 
       x = (served p q a u).answer
 
       go : (t : Bool) → eqb a 0 ≡ t
-          → ((y : Units.Answer) → pick t Nothing (Said.answered (head_of (request_of u)) (served p q a u).answer) ≡ Data y → E.hear (made_of a (unit_of i y)) ≡ heard (reply_to a y) (words_told y))
-          → AnswerHeard E m (served p q a u).answer (sent_by made_of i a (pick t Nothing (Said.answered (head_of (request_of u)) (served p q a u).answer)))
+          → ((y : Units.Answer) → pick t None (Said.answered (head_of (request_of u)) (served p q a u).answer) ≡ Some y → E.hear (made_of a (unit_of i y)) ≡ heard (reply_to a y) (words_told y))
+          → AnswerHeard E m (served p q a u).answer (sent_by made_of i a (pick t None (Said.answered (head_of (request_of u)) (served p q a u).answer)))
       go true e hears = unanswered E m (served p q a u).answer [] (inl (all ∙ e)) refl
       go false e hears = by_request e (request_of u) refl (served p q a u).answer (served_fits p q a u) hears
 
@@ -255,7 +254,7 @@ rtu_answers c sound p f room h x e = go (frame_holds f) (ap (λ (r : Received). 
     is : received c f room ≡ pick (frame_holds f) (Rtu.taken c f) (Rtu.spoilt c (length f))
     is = by_rtu c f room p ∙ simp (le-ltb room rtu_least (enough_rtu c room p h))
 
-    back : (y : Units.Answer) → (Rtu.exchange_on c f).reply ≡ Data y → rtu_heard (rtu_of (address_in f) (unit_of c.identity y)) ≡ heard (reply_to (address_in f) y) (words_told y)
+    back : (y : Units.Answer) → (Rtu.exchange_on c f).reply ≡ Some y → rtu_heard (rtu_of (address_in f) (unit_of c.identity y)) ≡ heard (reply_to (address_in f) y) (words_told y)
     back y k =
         Frames.answer_back c.identity (address_in f) y (ours c.plant c.port.numbers (address_in f) (unit_in f) y sound.plant.station k)
         (answers c.plant c.port.numbers (address_in f) (unit_in f) y k)

@@ -1,4 +1,5 @@
 -- What the card replies over NFO serial is read back as what was answered. Assumes nothing.
+use Rattle.std.proofs.Common.{Option, Some, None}
 use mathlib.Core.Path.{◌≡◌, refl, sym, ap, subst, ◌∙◌}
 use mathlib.Core.Logic.{◌⊎◌, inl, inr}
 use mathlib.Core.Bool.{true, false}
@@ -9,8 +10,6 @@ use lib.Dec.{eqb}
 use lib.ListN.{get_or}
 use Rattle.base.proofs.Tests.{pick_both}
 use Rattle.hex_pairs.specs.Hex.{pair_value}
-use Rattle.hex_pairs.specs.declared.Pair.{Pair}
-use Rattle.hex_pairs.specs.declared.Pair.TheVariants.{Byte, NoByte}
 use Rattle.hex_pairs.proofs.RoundTrip.{pair_below}
 use Rattle.answers.specs.declared.Answer.{Answer}
 use Rattle.answers.specs.declared.Answer.TheVariants as Answers
@@ -19,7 +18,6 @@ use Rattle.nfo.specs.Shape.{fits, whole}
 use Rattle.nfo.specs.Message.{ADR, enquiry, select, formed}
 use Rattle.nfo_parts.specs.Parts.{word_in, value_at, number_in, parameter_at, message_of}
 use Rattle.nfo_parts.specs.declared.message.Message.{Message}
-use Rattle.nfo_parts.specs.declared.message.Parameter.{Parameter}
 use Rattle.nfo.proofs.Shape.{whole_at}
 use Rattle.nfo.proofs.Lawful.{formed_shape, nfo_stream_lem}
 use Rattle.nfo_service.specs.Reply.{adr_in, parameter_in, e_number_in, replied_by, replied}
@@ -31,6 +29,7 @@ use Rattle.demands.specs.Calls.{nfo_serial}
 use Rattle.demands.specs.Demand2.{serial, AnswerHeard, AnswersFirst}
 use Rattle.demands.proofs.OneCall.{nfo_takes, first_formed}
 use Rattle.demands.proofs.Ears.{one_answer, told_not_1, refused_not_1, unanswered, answered}
+use Rattle.table.specs.declared.labels.ENumber.{ENumber}
 
 -- ---- a message has an ADR, and the number of its parameter has four digits
 abbrev Named : Message → Type 0
@@ -40,14 +39,14 @@ value_below : (m : List ℕ) (i : ℕ) → e_number_in (number_in (value_at i m)
 unfolding value_at
 value_below m i = go (pair_value (get_or m i 0) (get_or m (i + 1) 0)) (pair_value (get_or m (i + 2) 0) (get_or m (i + 3) 0)) refl refl
   where
-    go : (x y : Pair) → pair_value (get_or m i 0) (get_or m (i + 1) 0) ≡ x → pair_value (get_or m (i + 2) 0) (get_or m (i + 3) 0) ≡ y → e_number_in (number_in (word_in x y)) < 65536
-    go (Byte h) (Byte l) p q = omega (arith, pair_below _ _ h p, pair_below _ _ l q)
-    go (Byte h) NoByte p q = omega arith
-    go NoByte y p q = omega arith
+    go : (x y : Option ℕ) → pair_value (get_or m i 0) (get_or m (i + 1) 0) ≡ x → pair_value (get_or m (i + 2) 0) (get_or m (i + 3) 0) ≡ y → e_number_in (number_in (word_in x y)) < 65536
+    go (Some h) (Some l) p q = omega (arith, pair_below _ _ h p, pair_below _ _ l q)
+    go (Some h) None p q = omega arith
+    go None y p q = omega arith
 
 parameter_below : (m : List ℕ) (i : ℕ) → e_number_in (parameter_at i m) < 65536
 unfolding parameter_at
-parameter_below m i = pick_both (λ (x : Parameter). e_number_in x < 65536) (eqb (get_or m i 0) 0x45) (λ _. value_below m (i + 1)) (λ _. omega arith)
+parameter_below m i = pick_both (λ (x : Option ENumber). e_number_in x < 65536) (eqb (get_or m i 0) 0x45) (λ _. value_below m (i + 1)) (λ _. omega arith)
 
 adr : (m : List ℕ) → formed m ≡ true → fits ADR (get_or m 1 0) ≡ true
 unfolding enquiry select

@@ -1,7 +1,7 @@
 -- Demand 1: "No bytes, lengths, numbers or lent buffers can break it or keep it from answering. Each refusal has document 01's number, is given exactly
 -- then, and leaves settings, drive state and reply buffer as 01 says." No public routine asks anything of its arguments, so each answers whatever they are.
 -- Assumes nothing.
-use Rattle.std.specs.Prelude.{◌≡◌, ◌⊎◌, ◌↔◌, Bool, not, List, [], ◌∷◌, ◌++◌, ℕ, ◌≤◌, ◌+◌, ◌<◌, ltb, length}
+use Rattle.std.specs.Prelude.{◌≡◌, ◌⊎◌, ◌↔◌, Bool, not, List, [], ◌∷◌, ◌++◌, ℕ, ◌≤◌, ◌+◌, ◌<◌, ltb, length, Option, Some, None}
 use Rattle.base.specs.Choice.{either}
 use Rattle.base.specs.Order.{when}
 use Rattle.base.specs.Bytes.{Bytes}
@@ -136,25 +136,25 @@ ZeroOr14 n Is = ((n ≡ 0) ↔ Is) × ((n ≡ 14) ↔ (Is → ⊥))
 
 -- of NFO serial: "a reply must fill its slice exactly, with the shape, check and hex above". "Take a-f as well .. in replies the master side reads": any characters
 -- that spell the number and the value
-abbrev pub IsSerial : Serial.Reply → List ℕ → Type 0
-IsSerial (Serials.Told address e word) bytes =
+abbrev pub IsSerial : Option Serial.Reply → List ℕ → Type 0
+IsSerial (Some (Serials.Told address e word)) bytes =
     (address < 96) × (e.0 < 65536) × (word < 65536)
     × (number : List ℕ) × (value : List ℕ) × Spells number e.0 × Spells value word × (bytes ≡ reply_with (address + 32) number value)
-IsSerial (Serials.Acknowledged address) bytes = (address < 96) × (bytes ≡ ack_of (address + 32))
-IsSerial (Serials.Refused address) bytes = (address < 96) × (bytes ≡ nak_of (address + 32))
-IsSerial Serials.NotAReply bytes = ⊥
+IsSerial (Some (Serials.Acknowledged address)) bytes = (address < 96) × (bytes ≡ ack_of (address + 32))
+IsSerial (Some (Serials.Refused address)) bytes = (address < 96) × (bytes ≡ nak_of (address + 32))
+IsSerial None bytes = ⊥
 
 -- of Modbus: "address 1 to 247 and a normal answer of the four functions .. or exception", in the messages that its line makes of an address and a unit. The bytes
 -- are taken as the line would write them: a frame as it is, a text in capitals
 pub record Hears (asWritten : List ℕ → List ℕ) (made : ℕ → List ℕ → List ℕ) (hear : List ℕ → Heard) : Type 0 where
   pub only : (bytes : List ℕ) → Bytes bytes → ZeroOr14 (reply_number (hear bytes).reply) (IsMessage made (asWritten bytes) (hear bytes))
-  pub every : (r : Reply) (words : List ℕ) → IsReply r → length words ≡ registers_of r → InWidth r words
+  pub every : (r : Option Reply) (words : List ℕ) → IsReply r → length words ≡ registers_of r → InWidth r words
       → (bytes : List ℕ) → asWritten bytes ≡ made (address_of r) (reply_unit r words) → hear bytes ≡ heard r words
 
 -- each tells of what it reads, and reads every reply there is
 pub record Hearing : Type 0 where
   pub serial_only : (bytes : List ℕ) → ZeroOr14 (SerialReplies.reply_number (read_of bytes)) (IsSerial (read_of bytes) bytes)
-  pub serial_every : (r : Serial.Reply) (bytes : List ℕ) → IsSerial r bytes → read_of bytes ≡ r
+  pub serial_every : (r : Option Serial.Reply) (bytes : List ℕ) → IsSerial r bytes → read_of bytes ≡ r
   pub rtu : Hears (λ frame. frame) rtu_of rtu_heard
   pub ascii : Hears capitals ascii_of ascii_heard
 

@@ -1,7 +1,7 @@
 -- Demand 2: "Each message has exactly the effect and reply of document 01. What the master side writes is read by the card as that same request, and each
 -- reply is read back as what was answered." The effect is stated in Effects.antt, the rest here. A card is the whole card, with the status word that is kept in it.
 -- Assumes nothing.
-use Rattle.std.specs.Prelude.{◌≡◌, ◌⊎◌, ◌↔◌, Bool, true, List, [], ◌∷◌, ◌++◌, ℕ, ◌+◌, ◌-◌, ◌*◌, ◌/◌, ◌%◌, ◌<◌, eqb, length, take, drop, get_or}
+use Rattle.std.specs.Prelude.{◌≡◌, ◌⊎◌, ◌↔◌, Bool, true, List, [], ◌∷◌, ◌++◌, ℕ, ◌+◌, ◌-◌, ◌*◌, ◌/◌, ◌%◌, ◌<◌, eqb, length, take, drop, get_or, Option, Some, None}
 use Rattle.std.specs.Int.Bits.{bit_or}
 use Rattle.base.specs.Choice.{pick}
 use Rattle.stream.specs.Format.{Format}
@@ -13,8 +13,6 @@ use Rattle.answers.specs.declared.Answer.TheVariants as Answers
 use Rattle.answers.specs.Answer.{refusal_number}
 use Rattle.nfo_parts.specs.Parts.{message_of}
 use Rattle.nfo_parts.specs.declared.message.Message.TheVariants.{Enquiry, Select}
-use Rattle.nfo_parts.specs.declared.message.Parameter.TheVariants.{Number}
-use Rattle.nfo_parts.specs.declared.message.Value.TheVariants.{Word}
 use Rattle.nfo_service.specs.Reply.{adr_in, parameter_in, e_number_in}
 use Rattle.modbus_words.specs.Words.{word_at}
 use Rattle.modbus.specs.Request.{request_of}
@@ -37,7 +35,7 @@ use Rattle.master_request.specs.Said.{request_said, data_said, InWidth}
 use Rattle.master_reply.specs.Reply.{heard}
 use Rattle.master_reply.specs.Told.{Within}
 use Rattle.master_reply.specs.declared.Heard.{Heard}
-use Rattle.master_reply.specs.declared.Reply.TheVariants.{Data, One, Many, Exception, NotAReply}
+use Rattle.master_reply.specs.declared.Reply.TheVariants.{Data, One, Many, Exception}
 use Rattle.master_rtu.specs.Heard.{rtu_heard}
 use Rattle.master_ascii.specs.Heard.{ascii_heard}
 use Rattle.demands.specs.Calls.{LongEnough, Wire, nfo_serial, modbus_ascii, Course, Calls, Speaks, NothingPending, besides, message, TakesFirst}
@@ -78,9 +76,9 @@ pub record Arrives (ask : Ask) (registers unit : List ℕ) : Type 0 where
 -- "as that same request": for all that can be said
 pub record Requests : Type 0 where
   pub enquiry : (address e : ℕ) → enquirable address ≡ true → e < 65536
-      → ReadAs nfo_serial (enquiry_of address e) × (message_of (enquiry_of address e) ≡ Enquiry (address + 32) (Number (record { 0 = e })))
+      → ReadAs nfo_serial (enquiry_of address e) × (message_of (enquiry_of address e) ≡ Enquiry (address + 32) (Some (record { 0 = e })))
   pub select : (address e word : ℕ) → selectable address ≡ true → e < 65536 → word < 65536
-      → ReadAs nfo_serial (select_of address e word) × (message_of (select_of address e word) ≡ Select (address + 32) (Number (record { 0 = e })) (Word word))
+      → ReadAs nfo_serial (select_of address e word) × (message_of (select_of address e word) ≡ Select (address + 32) (Some (record { 0 = e })) (Some word))
   pub rtu : (address : ℕ) (ask : Ask) (registers : List ℕ) → sayable address ask (length registers) ≡ true
       → FrameRead (frame address ask registers)
       × (address_in (frame address ask registers) ≡ address)
@@ -132,34 +130,34 @@ pub record Ears (H : Type 0) : Type 0 where
   pub back : List ℕ → Answer → H
 
 -- NFO serial: the row's E number and word by REPLY, a write by ACK, a refusal by NAK, each from the address that was asked. "95 is broadcast"
-abbrev pub serial_back : List ℕ → Answer → Serial.Reply
-serial_back m (Answers.Told row word) = Serials.Told (adr_in (message_of m) - 32) (record { 0 = e_number_in (parameter_in (message_of m)) }) (word % 0x10000)
-serial_back m (Answers.Written change) = Serials.Acknowledged (adr_in (message_of m) - 32)
-serial_back m (Answers.Identified part) = Serials.NotAReply
-serial_back m Answers.NotOurs = Serials.NotAReply
-serial_back m (Answers.Refused refusal) = Serials.Refused (adr_in (message_of m) - 32)
+abbrev pub serial_back : List ℕ → Answer → Option Serial.Reply
+serial_back m (Answers.Told row word) = Some (Serials.Told (adr_in (message_of m) - 32) (record { 0 = e_number_in (parameter_in (message_of m)) }) (word % 0x10000))
+serial_back m (Answers.Written change) = Some (Serials.Acknowledged (adr_in (message_of m) - 32))
+serial_back m (Answers.Identified part) = None
+serial_back m Answers.NotOurs = None
+serial_back m (Answers.Refused refusal) = Some (Serials.Refused (adr_in (message_of m) - 32))
 
-abbrev pub serial : Ears Serial.Reply
+abbrev pub serial : Ears (Option Serial.Reply)
 serial = record { to_all = λ m. eqb (adr_in (message_of m)) (95 + 32); hear = read_of; back = serial_back }
 
 -- Modbus: a row told by its words, a write by its register, and its word or count, a refusal by its exception, each from the address that was asked. "The master side
 -- doesn't speak these two, and their normal replies are left out of demand 2's reading back": to those of 43 and 17 its reader says 14, and what they hold is in
 -- Identity.antt. Their exceptions are heard as any other
 abbrev pub wrote_back : ℕ → Request → Heard
-wrote_back address (Requested.Read function first count) = heard NotAReply []
-wrote_back address (Requested.One register word) = heard (One address register word) []
-wrote_back address (Requested.Many first count place) = heard (Many address first count) []
-wrote_back address (Requested.Identify code object) = heard NotAReply []
-wrote_back address Requested.Serial = heard NotAReply []
-wrote_back address (Requested.Malformed function) = heard NotAReply []
-wrote_back address (Requested.Unknown function) = heard NotAReply []
+wrote_back address (Requested.Read function first count) = heard None []
+wrote_back address (Requested.One register word) = heard (Some (One address register word)) []
+wrote_back address (Requested.Many first count place) = heard (Some (Many address first count)) []
+wrote_back address (Requested.Identify code object) = heard None []
+wrote_back address Requested.Serial = heard None []
+wrote_back address (Requested.Malformed function) = heard None []
+wrote_back address (Requested.Unknown function) = heard None []
 
 abbrev pub modbus_back : ℕ → Request → Answer → Heard
-modbus_back address request (Answers.Told row word) = heard (Data address (function_in request) (length (row_words row word))) (row_words row word)
+modbus_back address request (Answers.Told row word) = heard (Some (Data address (function_in request) (length (row_words row word)))) (row_words row word)
 modbus_back address request (Answers.Written change) = wrote_back address request
-modbus_back address request (Answers.Identified part) = heard NotAReply []
-modbus_back address request Answers.NotOurs = heard NotAReply []
-modbus_back address request (Answers.Refused refusal) = heard (Exception address (bit_or (function_in request) 0x80) (exception_at (refusal_number refusal))) []
+modbus_back address request (Answers.Identified part) = heard None []
+modbus_back address request Answers.NotOurs = heard None []
+modbus_back address request (Answers.Refused refusal) = heard (Some (Exception address (bit_or (function_in request) 0x80) (exception_at (refusal_number refusal)))) []
 
 -- "0 is broadcast"
 abbrev pub rtu : Ears Heard

@@ -1,13 +1,11 @@
 -- Demand 2, its first half: "Each message has exactly the effect .. of document 01". An effect is told by what a following read answers, in messages as a master
 -- writes them, over each of the three protocols; and every number that no read tells is named. Drive Status is a row like any other here: its word stands in the card, and after
 -- every message it is told by its rule, where it was right before (`drive_status`, and `Status`). Assumes nothing.
-use Rattle.std.specs.Prelude.{◌≡◌, ◌⊎◌, ◌≢◌, ◌↔◌, true, false, List, [], ℕ, ◌/◌, ◌^◌, ◌<◌, eqb, length, get_or}
+use Rattle.std.specs.Prelude.{◌≡◌, ◌⊎◌, ◌≢◌, ◌↔◌, true, false, List, [], ℕ, ◌/◌, ◌^◌, ◌<◌, eqb, length, get_or, Option, Some}
 use Rattle.base.specs.Choice.{pick, both, either}
 use Rattle.table.specs.Names.{Mode, Setpoint, MODE, SCMD, Inv-St-ack, Inv-St, SioErr, Drive-Status, row_count}
 use Rattle.table.specs.Table.{Word, line_at}
 use Rattle.table.specs.Find.{row_of_e, row_of_span}
-use Rattle.table.specs.declared.labels.Found.{Found}
-use Rattle.table.specs.declared.labels.Found.TheVariants.{At}
 use Rattle.identity.specs.Identity.{Identity}
 use Rattle.identity.specs.declared.Part.{Part}
 use Rattle.port.specs.Port.{protocol, sum, sioerr, with_sioerr}
@@ -33,10 +31,11 @@ use Rattle.master_request.specs.Ask.{sayable, request_unit}
 use Rattle.master_request.specs.Said.{InWidth}
 use Rattle.demands.specs.Calls.{LongEnough, besides}
 use Rattle.demands.specs.Kept.{TakenOut, SoundIdentity, Sound}
+use Rattle.table.specs.declared.labels.Row.{Row}
 
 -- the row that a label leads to
-abbrev pub row : ℕ → Found
-row n = At (record { 0 = n })
+abbrev pub row : ℕ → Option Row
+row n = Some (record { 0 = n })
 
 -- ---- messages that read a row
 -- 03 and 04 of its registers

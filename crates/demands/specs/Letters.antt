@@ -1,11 +1,10 @@
 -- Small letters: "Take a-f as well, in NFO parameters and values, in Modbus ASCII pairs, and in replies the master side reads. The prefix E stays a capital. We
 -- write capitals still, and an NFO reply names the parameter in capitals, with its BCC over those." (Document 02, request 1. The replies that the master side
 -- reads are in Demand1.antt.) Assumes nothing.
-use Rattle.std.specs.Prelude.{◌≡◌, true, List, ℕ, ◌<◌, take, drop, get_or}
+use Rattle.std.specs.Prelude.{◌≡◌, true, List, ℕ, ◌<◌, take, drop, get_or, None}
 use Rattle.hex_pairs.specs.Hex.{capitals}
 use Rattle.nfo_parts.specs.Replies.{Spells}
 use Rattle.nfo_parts.specs.Parts.{parameter_at, message_of}
-use Rattle.nfo_parts.specs.declared.message.Parameter.TheVariants.{NoNumber}
 use Rattle.ascii.specs.Ascii as Ascii
 use Rattle.card.specs.declared.state.Card.{Card}
 use Rattle.receive.specs.Receive.{received}
@@ -22,7 +21,7 @@ pub record TakesSmall : Type 0 where
   pub select : (address e word : ℕ) (number value : List ℕ) → address < 96 → e < 65536 → word < 65536 → Spells number e → Spells value word
       → ReadAs nfo_serial (select_with address number value) × (message_of (select_with address number value) ≡ message_of (select_of address e word))
   -- "The prefix E stays a capital"
-  pub prefix : (i : ℕ) (m : List ℕ) → (get_or m i 0 ≡ 0x45 → ⊥) → parameter_at i m ≡ NoNumber
+  pub prefix : (i : ℕ) (m : List ℕ) → (get_or m i 0 ≡ 0x45 → ⊥) → parameter_at i m ≡ None
   -- in Modbus ASCII: any text that is a message in capitals
   pub ascii : (m : List ℕ) → Ascii.formed (capitals m) ≡ true → ReadAs modbus_ascii m × (Ascii.bytes_in m ≡ Ascii.bytes_in (capitals m))
 

@@ -1,12 +1,11 @@
 -- Document 01's orders, of a message and of a call, each one list: "Order: 10 first, in every reply call; NFO 1, 2, 3, 8, 4, 5, 6, 7; Modbus 11, 1 by
 -- address, 9, 1 for a broadcast read, 8, 2, 3, 4, 5, 6, 7". Assumes nothing.
-use Rattle.std.specs.Prelude.{◌≡◌, refl, ◌⊎◌, true, false, not, List, [], ◌∷◌, ◌++◌, ℕ, eqb, ltb}
+use Rattle.std.specs.Prelude.{◌≡◌, refl, ◌⊎◌, true, false, not, List, [], ◌∷◌, ◌++◌, ℕ, eqb, ltb, Option}
 use Rattle.base.specs.Choice.{pick}
 use Rattle.base.specs.Buffers.{reply_least}
 use Rattle.base.specs.Order.{Line, when, saying, numbers}
 use Rattle.table.specs.declared.labels.Row.{Row}
 use Rattle.table.specs.declared.labels.Register.{Register}
-use Rattle.table.specs.declared.labels.Found.{Found}
 use Rattle.drive.specs.Plant.{Plant, station}
 use Rattle.answers.specs.declared.Answer.{Answer}
 use Rattle.answers.specs.declared.Answer.TheVariants.{Refused}
@@ -18,7 +17,6 @@ use Rattle.pending.specs.Scanning.{Scan, Feeding, scan_from}
 use Rattle.nfo_parts.specs.Parts.{message_of}
 use Rattle.nfo_parts.specs.declared.message.Message.{Message}
 use Rattle.nfo_parts.specs.declared.message.Message.TheVariants.{Enquiry, Select}
-use Rattle.nfo_parts.specs.declared.message.Value.{Value}
 use Rattle.nfo_service.specs.Serve as Nfo
 use Rattle.card.specs.State.{protocol_of}
 use Rattle.card.specs.declared.state.Card.{Card}
@@ -42,13 +40,13 @@ Gives number (l ∷ ls) n = ((l.test ≡ true) × (number l.answer ≡ n)) ⊎ (
 
 -- ---- the orders of a message, each line with its "When"
 -- "Order: .. NFO 1, 2, 3, 8, 4, 5, 6, 7"; the broadcast that clears 14 has "outcome 0, at any MODE", so it passes by 4 to 7
-abbrev pub select_order : Plant → ℕ → Found → Value → List (Line Answer)
+abbrev pub select_order : Plant → ℕ → Option Row → Option ℕ → List (Line Answer)
 select_order p adr found value =
     Nfo.name_lines p adr found
     ++ (Nfo.row_lines (the_row found) value
     ++ pick (Nfo.stops p adr (the_row found).0 (Nfo.the_word value)) [] (saying Refused (write_lines p (the_row found).0 (Nfo.the_word value))))
 
-pub select_order_lem : (p : Plant) (adr : ℕ) (found : Found) (value : Value) → Nfo.stops p adr (the_row found).0 (Nfo.the_word value) ≡ false
+pub select_order_lem : (p : Plant) (adr : ℕ) (found : Option Row) (value : Option ℕ) → Nfo.stops p adr (the_row found).0 (Nfo.the_word value) ≡ false
     → numbers answer_number (select_order p adr found value) ≡ 1 ∷ 2 ∷ 3 ∷ 8 ∷ 4 ∷ 5 ∷ 6 ∷ 7 ∷ []
 select_order_lem p adr found value other = rw other
 

@@ -1,8 +1,7 @@
 -- A text in capitals spells what the text spells; and what is written is in capitals. Assumes nothing.
-use Rattle.std.proofs.Common.{◌≡◌, ℕ, suc, ◌-◌, ◌/◌, ◌%◌, false, List, [], ◌∷◌, ◌++◌, length, sym, refl, ap, ◌∙◌, ap₂, arith, le-leb}
+use Rattle.std.proofs.Common.{◌≡◌, ℕ, suc, ◌-◌, ◌/◌, ◌%◌, false, List, [], ◌∷◌, ◌++◌, length, sym, refl, ap, ◌∙◌, ap₂, arith, le-leb, Some}
 use mathlib.Core.List.{head-eq_of_cons-eq, tail-eq_of_cons-eq}
 use Rattle.base.proofs.Tests.{both_in, not_both}
-use Rattle.hex_pairs.specs.declared.Digit.TheVariants.{Value}
 use Rattle.hex_pairs.specs.Hex.{is_capital, is_hex, digit_value, digit_of, capital_of, capitals, joined, pair_value, hex_of, spelt, bytes_of}
 use Rattle.hex_pairs.proofs.Characters.{value_capital, value_small, capital_below, by_case, digit_rest}
 use Rattle.hex_pairs.proofs.RoundTrip.{value_digit, digit_value_lem, is_value, hex_is_value}
@@ -12,7 +11,7 @@ use Rattle.hex_pairs.proofs.RoundTrip.{value_digit, digit_value_lem, is_value, h
 pub value_of_capital : (c : ℕ) → digit_value (capital_of c) ≡ digit_value c
 value_of_capital c =
     by_case (λ (x : ℕ). digit_value x ≡ digit_value c) c
-    (λ h k. sym (value_capital (c - 0x20) (omega arith) (omega arith)) ∙ ap Value (omega arith) ∙ value_small c h k)
+    (λ h k. sym (value_capital (c - 0x20) (omega arith) (omega arith)) ∙ ap Some (omega arith) ∙ value_small c h k)
     (λ e. refl)
 
 pub hex_of_capital : (c : ℕ) → is_hex (capital_of c) ≡ is_hex c

@@ -1,36 +1,34 @@
 -- What a character is worth, and what it is in capitals, by where it stands among 0-9, A-F and a-f. Assumes nothing.
-use Rattle.std.proofs.Common.{◌≡◌, ℕ, ◌+◌, ◌-◌, ◌%◌, ◌<◌, ◌≤◌, Bool, true, false, leb, sym, refl, ap, ◌∙◌, arith, le-ltb, lt-ltb, le-leb, leb-true}
+use Rattle.std.proofs.Common.{◌≡◌, ℕ, ◌+◌, ◌-◌, ◌%◌, ◌<◌, ◌≤◌, Bool, true, false, leb, sym, refl, ap, ◌∙◌, arith, le-ltb, lt-ltb, le-leb, leb-true, Option, Some, None}
 use borrow.Author.Tests.{lt-leb}
 use Rattle.base.specs.Choice.{pick, either}
 use Rattle.base.proofs.Arms.{NoneOf, up_from, past}
 use Rattle.base.proofs.Tests.{both_out}
-use Rattle.hex_pairs.specs.declared.Digit.{Digit}
-use Rattle.hex_pairs.specs.declared.Digit.TheVariants.{Value, NotHex}
 use Rattle.hex_pairs.specs.Hex.{is_numeral, is_capital, is_small, is_hex, digit_value, digit_of, capital_of}
 
 -- ---- by where it stands
-pub value_numeral : (c : ℕ) → 0x30 ≤ c → c ≤ 0x39 → Value (c - 0x30) ≡ digit_value c
+pub value_numeral : (c : ℕ) → 0x30 ≤ c → c ≤ 0x39 → Some (c - 0x30) ≡ digit_value c
 unfolding digit_value
 value_numeral c h k = simp (le-leb 0x30 c h, le-leb c 0x39 k)
 
-pub value_capital : (c : ℕ) → 0x41 ≤ c → c ≤ 0x46 → Value (c - 0x41 + 10) ≡ digit_value c
+pub value_capital : (c : ℕ) → 0x41 ≤ c → c ≤ 0x46 → Some (c - 0x41 + 10) ≡ digit_value c
 unfolding digit_value
 value_capital c h k = simp (le-leb 0x30 c (omega arith), lt-leb c 0x39 (omega arith), le-leb 0x41 c h, le-leb c 0x46 k)
 
-pub value_small : (c : ℕ) → 0x61 ≤ c → c ≤ 0x66 → Value (c - 0x61 + 10) ≡ digit_value c
+pub value_small : (c : ℕ) → 0x61 ≤ c → c ≤ 0x66 → Some (c - 0x61 + 10) ≡ digit_value c
 unfolding digit_value
 value_small c h k =
     simp (le-leb 0x30 c (omega arith), lt-leb c 0x39 (omega arith), le-leb 0x41 c (omega arith), lt-leb c 0x46 (omega arith), le-leb 0x61 c h, le-leb c 0x66 k)
 
 -- ---- what holds of a numeral's worth, of a capital's, of a small letter's and of no digit holds of every character
-pub by_kind : (P : Bool → Digit → Type 0) (c : ℕ) → (0x30 ≤ c → c ≤ 0x39 → P true (Value (c - 0x30)))
-    → (0x41 ≤ c → c ≤ 0x46 → P true (Value (c - 0x41 + 10)))
-    → (0x61 ≤ c → c ≤ 0x66 → P true (Value (c - 0x61 + 10))) → P false NotHex → P (is_hex c) (digit_value c)
+pub by_kind : (P : Bool → Option ℕ → Type 0) (c : ℕ) → (0x30 ≤ c → c ≤ 0x39 → P true (Some (c - 0x30)))
+    → (0x41 ≤ c → c ≤ 0x46 → P true (Some (c - 0x41 + 10)))
+    → (0x61 ≤ c → c ≤ 0x66 → P true (Some (c - 0x61 + 10))) → P false None → P (is_hex c) (digit_value c)
 unfolding is_hex digit_value
 by_kind P c numeral capital small other = go (is_numeral c) (is_capital c) (is_small c) refl refl refl
   where
     go : (a b s : Bool) → is_numeral c ≡ a → is_capital c ≡ b → is_small c ≡ s
-        → P (either a (either b s)) (pick a (Value (c - 0x30)) (pick b (Value (c - 0x41 + 10)) (pick s (Value (c - 0x61 + 10)) NotHex)))
+        → P (either a (either b s)) (pick a (Some (c - 0x30)) (pick b (Some (c - 0x41 + 10)) (pick s (Some (c - 0x61 + 10)) None)))
     go true b s p q r = let h = both_out (leb 0x30 c) (leb c 0x39) p in numeral (leb-true 0x30 c h.0) (leb-true c 0x39 h.1)
     go false true s p q r = let h = both_out (leb 0x41 c) (leb c 0x46) q in capital (leb-true 0x41 c h.0) (leb-true c 0x46 h.1)
     go false false true p q r = let h = both_out (leb 0x61 c) (leb c 0x66) r in small (leb-true 0x61 c h.0) (leb-true c 0x66 h.1)
@@ -38,20 +36,20 @@ by_kind P c numeral capital small other = go (is_numeral c) (is_capital c) (is_s
 
 -- ---- by the code's tests: n is the character less `0`, m less `A`, s less `a`, modulo 256
 module _ (c n : ℕ) (wraps : (n + 0x30) % 256 ≡ c) where
-  pub value_first : n < 10 → Value n ≡ digit_value c
-  value_first h = let e : n ≡ c - 0x30 = omega arith in ap Value e ∙ value_numeral c (omega arith) (omega arith)
+  pub value_first : n < 10 → Some n ≡ digit_value c
+  value_first h = let e : n ≡ c - 0x30 = omega arith in ap Some e ∙ value_numeral c (omega arith) (omega arith)
 
   module _ (over : 10 ≤ n) (byte : n < 256) (m : ℕ) (wraps-too : (m + 0x41) % 256 ≡ c) where
-    pub value_second : m < 6 → Value (m + 10) ≡ digit_value c
-    value_second h = let e : m + 10 ≡ c - 0x41 + 10 = omega arith in ap Value e ∙ value_capital c (omega arith) (omega arith)
+    pub value_second : m < 6 → Some (m + 10) ≡ digit_value c
+    value_second h = let e : m + 10 ≡ c - 0x41 + 10 = omega arith in ap Some e ∙ value_capital c (omega arith) (omega arith)
 
     module _ (over-too : 6 ≤ m) (byte-too : m < 256) (s : ℕ) (wraps-again : (s + 0x61) % 256 ≡ c) where
-      pub value_third : s < 6 → Value (s + 10) ≡ digit_value c
-      value_third h = let e : s + 10 ≡ c - 0x61 + 10 = omega arith in ap Value e ∙ value_small c (omega arith) (omega arith)
+      pub value_third : s < 6 → Some (s + 10) ≡ digit_value c
+      value_third h = let e : s + 10 ≡ c - 0x61 + 10 = omega arith in ap Some e ∙ value_small c (omega arith) (omega arith)
 
-      pub value_none : 6 ≤ s → s < 256 → NotHex ≡ digit_value c
+      pub value_none : 6 ≤ s → s < 256 → None ≡ digit_value c
       value_none h k =
-          by_kind (λ b d. NotHex ≡ d) c (λ p q. absurd (omega (arith, p, q))) (λ p q. absurd (omega (arith, p, q))) (λ p q. absurd (omega (arith, p, q))) refl
+          by_kind (λ b d. None ≡ d) c (λ p q. absurd (omega (arith, p, q))) (λ p q. absurd (omega (arith, p, q))) (λ p q. absurd (omega (arith, p, q))) refl
 
 -- ---- in capitals: a-f are A-F, and all else stays
 pub capital_below : (c : ℕ) → c < 0x61 → c ≡ capital_of c

@@ -1,31 +1,27 @@
 -- What the code's tests and calls show: two characters as a pair, and the loops of `encode` and `decode`, turn by turn. Assumes nothing.
-use Rattle.std.proofs.Common.{◌≡◌, ℕ, suc, ◌+◌, ◌*◌, ◌/◌, ◌%◌, ◌<◌, ◌≤◌, min, List, [], ◌∷◌, length, get_or, drop, set, sym, refl, ap, ◌∙◌, ap₂, le_of_suc-le-suc, not-suc-le-zero, add-one, arith, length-drop, length-set, drop_of_length-le, drop-cons, w8, Fits}
+use Rattle.std.proofs.Common.{◌≡◌, ℕ, suc, ◌+◌, ◌*◌, ◌/◌, ◌%◌, ◌<◌, ◌≤◌, min, List, [], ◌∷◌, length, get_or, drop, set, sym, refl, ap, ◌∙◌, ap₂, le_of_suc-le-suc, not-suc-le-zero, add-one, arith, length-drop, length-set, drop_of_length-le, drop-cons, w8, Fits, Option, Some, None}
 use lib.Seq.{sets, set_out}
 use Rattle.base.proofs.Sets.{sets_out}
-use Rattle.hex_pairs.specs.declared.Digit.{Digit}
-use Rattle.hex_pairs.specs.declared.Digit.TheVariants.{Value, NotHex}
-use Rattle.hex_pairs.specs.declared.Pair.{Pair}
-use Rattle.hex_pairs.specs.declared.Pair.TheVariants.{Byte, NoByte}
 use Rattle.hex_pairs.specs.Hex.{digit_value, digit_of, joined, pair_value, hex_of, spelt, bytes_of}
 use Rattle.hex_pairs.proofs.RoundTrip.{value_below}
 
 -- ---- a pair, by what `digit_value_lem` told of its characters
 -- what two digits spell fits a byte
-pub high_fits : (high n : ℕ) (d : Digit) → d ≡ digit_value high → d ≡ Value n → Fits w8 (n * 16)
+pub high_fits : (high n : ℕ) (d : Option ℕ) → d ≡ digit_value high → d ≡ Some n → Fits w8 (n * 16)
 high_fits high n d h p = omega (arith, value_below high n (sym h ∙ p))
 
-pub pair_fits : (high low n m : ℕ) (d e : Digit) → d ≡ digit_value high → d ≡ Value n → e ≡ digit_value low → e ≡ Value m → Fits w8 (n * 16 + m)
+pub pair_fits : (high low n m : ℕ) (d e : Option ℕ) → d ≡ digit_value high → d ≡ Some n → e ≡ digit_value low → e ≡ Some m → Fits w8 (n * 16 + m)
 pair_fits high low n m d e h p l q = omega (arith, value_below high n (sym h ∙ p), value_below low m (sym l ∙ q))
 
-pub pair_high_none : (high low : ℕ) (d : Digit) → d ≡ digit_value high → d ≡ NotHex → NoByte ≡ pair_value high low
+pub pair_high_none : (high low : ℕ) (d : Option ℕ) → d ≡ digit_value high → d ≡ None → None ≡ pair_value high low
 unfolding pair_value
-pair_high_none high low d h e = ap (λ (x : Digit). joined x (digit_value low)) (sym e ∙ h)
+pair_high_none high low d h e = ap (λ (x : Option ℕ). joined x (digit_value low)) (sym e ∙ h)
 
-pub pair_low_none : (high low n : ℕ) (d e : Digit) → d ≡ digit_value high → d ≡ Value n → e ≡ digit_value low → e ≡ NotHex → NoByte ≡ pair_value high low
+pub pair_low_none : (high low n : ℕ) (d e : Option ℕ) → d ≡ digit_value high → d ≡ Some n → e ≡ digit_value low → e ≡ None → None ≡ pair_value high low
 unfolding pair_value
 pair_low_none high low n d e h p l q = ap₂ joined (sym p ∙ h) (sym q ∙ l)
 
-pub pair_byte : (high low n m : ℕ) (d e : Digit) → d ≡ digit_value high → d ≡ Value n → e ≡ digit_value low → e ≡ Value m → Byte (n * 16 + m) ≡ pair_value high low
+pub pair_byte : (high low n m : ℕ) (d e : Option ℕ) → d ≡ digit_value high → d ≡ Some n → e ≡ digit_value low → e ≡ Some m → Some (n * 16 + m) ≡ pair_value high low
 unfolding pair_value
 pair_byte high low n m d e h p l q = ap₂ joined (sym p ∙ h) (sym q ∙ l)
 
@@ -98,11 +94,11 @@ next_pair t i h =
     (λ j. spelt (pair_value (get_or t (2 * i) 0) (get_or t (sym (add-one (2 * i)) j) 0)) (bytes_of (drop (twice i j) t)))
 
 -- the next pair spells a byte
-pub decode_again : (text bytes₀ bytes r : List ℕ) (i b : ℕ) (p : Pair) → Decoding text bytes₀ bytes i → 2 * i + 1 < length text
-    → p ≡ pair_value (get_or text (2 * i) 0) (get_or text (2 * i + 1) 0) → p ≡ Byte b → r ≡ set bytes i b → Decoding text bytes₀ r (i + 1)
+pub decode_again : (text bytes₀ bytes r : List ℕ) (i b : ℕ) (p : Option ℕ) → Decoding text bytes₀ bytes i → 2 * i + 1 < length text
+    → p ≡ pair_value (get_or text (2 * i) 0) (get_or text (2 * i + 1) 0) → p ≡ Some b → r ≡ set bytes i b → Decoding text bytes₀ r (i + 1)
 decode_again text bytes₀ bytes r i b p d h q e s =
     let one : bytes_of (drop (2 * i) text) ≡ b ∷ bytes_of (drop (2 * (i + 1)) text) =
-    next_pair text i h ∙ ap (λ (x : Pair). spelt x (bytes_of (drop (2 * (i + 1)) text))) (sym q ∙ e) in
+    next_pair text i h ∙ ap (λ (x : Option ℕ). spelt x (bytes_of (drop (2 * (i + 1)) text))) (sym q ∙ e) in
     record {
       passed = omega arith;
       kept = rw s (simp length-set d.kept);
@@ -118,9 +114,9 @@ pub decode_stores : (text bytes₀ bytes : List ℕ) (i : ℕ) → Decoding text
 decode_stores text bytes₀ bytes i d none = sym (ap (sets bytes i) none) ∙ d.left
 
 -- the next pair spells no byte
-pub spoilt : (text : List ℕ) (i : ℕ) (p : Pair) → 2 * i + 1 < length text → p ≡ pair_value (get_or text (2 * i) 0) (get_or text (2 * i + 1) 0) → p ≡ NoByte
+pub spoilt : (text : List ℕ) (i : ℕ) (p : Option ℕ) → 2 * i + 1 < length text → p ≡ pair_value (get_or text (2 * i) 0) (get_or text (2 * i + 1) 0) → p ≡ None
     → bytes_of (drop (2 * i) text) ≡ []
-spoilt text i p h q e = next_pair text i h ∙ ap (λ (x : Pair). spelt x (bytes_of (drop (2 * (i + 1)) text))) (sym q ∙ e)
+spoilt text i p h q e = next_pair text i h ∙ ap (λ (x : Option ℕ). spelt x (bytes_of (drop (2 * (i + 1)) text))) (sym q ∙ e)
 
 short : (t : List ℕ) → length t ≤ 1 → bytes_of t ≡ []
 unfolding bytes_of

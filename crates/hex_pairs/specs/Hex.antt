@@ -1,10 +1,6 @@
 -- Hex digits, and bytes as pairs of them: "Hex is 0-9 A-F", and "Take a-f as well .. We write capitals still" (document 02, request 1). Assumes nothing.
-use Rattle.std.specs.Prelude.{ℕ, ◌+◌, ◌-◌, ◌*◌, ◌/◌, ◌%◌, Bool, true, List, [], ◌∷◌, nat_le, nat_lt}
+use Rattle.std.specs.Prelude.{ℕ, ◌+◌, ◌-◌, ◌*◌, ◌/◌, ◌%◌, Bool, true, List, [], ◌∷◌, nat_le, nat_lt, Option, Some, None}
 use Rattle.base.specs.Choice.{pick, both, either}
-use Rattle.hex_pairs.specs.declared.Digit.{Digit}
-use Rattle.hex_pairs.specs.declared.Digit.TheVariants.{Value, NotHex}
-use Rattle.hex_pairs.specs.declared.Pair.{Pair}
-use Rattle.hex_pairs.specs.declared.Pair.TheVariants.{Byte, NoByte}
 
 -- "0-9"
 abbrev pub is_numeral : ℕ → Bool
@@ -30,11 +26,11 @@ all_hex [] = true
 all_hex (c ∷ t) = both (is_hex c) (all_hex t)
 
 -- what a character is worth
-unfoldable pub digit_value : ℕ → Digit
+unfoldable pub digit_value : ℕ → Option ℕ
 digit_value c =
-    pick (is_numeral c) (Value (c - 0x30))
-    (pick (is_capital c) (Value (c - 0x41 + 10))
-    (pick (is_small c) (Value (c - 0x61 + 10)) NotHex))
+    pick (is_numeral c) (Some (c - 0x30))
+    (pick (is_capital c) (Some (c - 0x41 + 10))
+    (pick (is_small c) (Some (c - 0x61 + 10)) None))
 
 -- "We write capitals still": the digit of a number, of which only the lowest four bits count
 unfoldable pub digit_of : ℕ → ℕ
@@ -48,13 +44,13 @@ unfoldable pub capitals : List ℕ → List ℕ
 capitals [] = []
 capitals (c ∷ t) = capital_of c ∷ capitals t
 
-abbrev pub joined : Digit → Digit → Pair
-joined (Value high) (Value low) = Byte (high * 16 + low)
-joined (Value high) NotHex = NoByte
-joined NotHex low = NoByte
+abbrev pub joined : Option ℕ → Option ℕ → Option ℕ
+joined (Some high) (Some low) = Some (high * 16 + low)
+joined (Some high) None = None
+joined None low = None
 
 -- the byte that two characters spell
-unfoldable pub pair_value : ℕ → ℕ → Pair
+unfoldable pub pair_value : ℕ → ℕ → Option ℕ
 pair_value high low = joined (digit_value high) (digit_value low)
 
 -- each byte as two digits
@@ -62,9 +58,9 @@ unfoldable pub hex_of : List ℕ → List ℕ
 hex_of [] = []
 hex_of (b ∷ s) = digit_of (b / 16) ∷ digit_of (b % 16) ∷ hex_of s
 
-abbrev pub spelt : Pair → List ℕ → List ℕ
-spelt (Byte b) s = b ∷ s
-spelt NoByte s = []
+abbrev pub spelt : Option ℕ → List ℕ → List ℕ
+spelt (Some b) s = b ∷ s
+spelt None s = []
 
 -- the bytes that the pairs of a text spell, up to the first pair that spells none; a last character without a partner is no pair
 unfoldable pub bytes_of : List ℕ → List ℕ

@@ -6,37 +6,23 @@ ghost use Rattle.std.specs.Prelude.{◌≡◌, min, length, slice_set};
 ghost use Rattle.std.proofs.lemmas.List.Edits.{sets};
 ghost use Rattle.hex_pairs.specs.Hex.{digit_value, digit_of, capital_of, pair_value, hex_of, bytes_of};
 
-// What a character is worth as a hex digit.
-#[derive(Clone, Copy)]
-pub enum Digit {
-    Value(u8),
-    NotHex,
-}
-
-// What two characters spell.
-#[derive(Clone, Copy)]
-pub enum Pair {
-    Byte(u8),
-    NoByte,
-}
-
 // What `character` is worth: 0 to 15, or no hex digit. A character below `0`, `A` or `a` wraps to a number that is too high.
-pub fn digit_value(character: u8) -> Digit
+pub fn digit_value(character: u8) -> Option<u8>
     ensures { result ≡ digit_value character }
 {
     let numeral = std::num::wrapping_sub_u8(character, b'0');
     if numeral < 10 {
-        return Digit::Value(numeral);
+        return Some(numeral);
     }
     let capital = std::num::wrapping_sub_u8(character, b'A');
     if capital < 6 {
-        return Digit::Value(capital + 10);
+        return Some(capital + 10);
     }
     let small = std::num::wrapping_sub_u8(character, b'a');
     if small < 6 {
-        return Digit::Value(small + 10);
+        return Some(small + 10);
     }
-    Digit::NotHex
+    None
 }
 
 // The digit of `number`, of which only the lowest four bits count.
@@ -76,17 +62,17 @@ pub fn capital_of(character: u8) -> u8
     character - 32
 }
 
-// The byte that two digits spell, the high one first.
-pub fn pair_value(high: u8, low: u8) -> Pair
+// The byte that two characters spell, the high digit first, where both are hex digits.
+pub fn pair_value(high: u8, low: u8) -> Option<u8>
     ensures { result ≡ pair_value high low }
 {
-    let Digit::Value(h) = digit_value(high) else {
-        return Pair::NoByte;
+    let Some(h) = digit_value(high) else {
+        return None;
     };
-    let Digit::Value(l) = digit_value(low) else {
-        return Pair::NoByte;
+    let Some(l) = digit_value(low) else {
+        return None;
     };
-    Pair::Byte(h * 16 + l)
+    Some(h * 16 + l)
 }
 
 // A store that leaves the slice alone where it lies past the end.
@@ -128,7 +114,7 @@ pub fn decode(text: &[u8], bytes: &mut [u8]) -> usize
 {
     let mut i: usize = 0;
     while 2 * i + 1 < text.len() {
-        let Pair::Byte(b) = pair_value(text[2 * i], text[2 * i + 1]) else {
+        let Some(b) = pair_value(text[2 * i], text[2 * i + 1]) else {
             return i;
         };
         put(bytes, i, b);

@@ -1,11 +1,9 @@
 -- A card's identity, its objects, and what is told of them: "function 43, type 14, after the Modbus application standard and source document 000: codes 01, 02 and 04,
 -- objects 00h to 06h, conformity 82h, and function 17: byte count 16, then the 16-character serial number". Assumes nothing.
-use Rattle.std.specs.Prelude.{Bool, List, [], ◌∷◌, ◌++◌, ℕ, eqb, ltb, leb, length, take, drop}
+use Rattle.std.specs.Prelude.{Bool, List, [], ◌∷◌, ◌++◌, ℕ, eqb, ltb, leb, length, take, drop, Option, Some, None}
 use Rattle.base.specs.Choice.{pick, both}
 use Rattle.identity.specs.declared.Part.{Part}
 use Rattle.identity.specs.declared.Part.TheVariants.{Objects, Serial}
-use Rattle.identity.specs.declared.Named.{Named}
-use Rattle.identity.specs.declared.Named.TheVariants as Names
 
 -- 41 bytes: "the revision 17 characters, the model 8", and the serial number 16
 abbrev pub Identity : Type 0
@@ -62,11 +60,11 @@ unfoldable pub up_to : (code object last : ℕ) → Part
 up_to code object last = pick (ltb last object) (Objects code 0x00 last) (Objects code object last)
 
 -- "with 01 up to 02h, with 02 up to 06h"; with 04 the one named: "unknown object with code 04 is 2"
-unfoldable pub objects_asked : (code object : ℕ) → Named
+unfoldable pub objects_asked : (code object : ℕ) → Option Part
 objects_asked code object =
-    pick (eqb code 1) (Names.Part (up_to code object 0x02))
-    (pick (eqb code 2) (Names.Part (up_to code object 0x06))
-    (pick (ltb 0x06 object) Names.NoObject (Names.Part (Objects code object object))))
+    pick (eqb code 1) (Some (up_to code object 0x02))
+    (pick (eqb code 2) (Some (up_to code object 0x06))
+    (pick (ltb 0x06 object) None (Some (Objects code object object))))
 
 -- ---- what is told, as a data unit
 -- an object: its number, its length, its bytes

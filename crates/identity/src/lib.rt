@@ -34,28 +34,21 @@ pub enum Part {
     Serial,
 }
 
-// What an identification code and an object name.
-#[derive(Clone, Copy)]
-pub enum Named {
-    Part(Part),
-    NoObject,
-}
-
 // The objects that an identification code asks for, from the one that is named: by 01 up to 02h and by 02 up to 06h, from 00h where the named one lies outside; by 04 that
 // one alone, which there is or is not. Any other code is taken as 04.
-pub fn objects_asked(code: u8, object: u8) -> Named
+pub fn objects_asked(code: u8, object: u8) -> Option<Part>
     ensures { result ≡ objects_asked code object }
 {
     if code == 1 {
-        return Named::Part(up_to(code, object, LAST_BASIC));
+        return Some(up_to(code, object, LAST_BASIC));
     }
     if code == 2 {
-        return Named::Part(up_to(code, object, LAST_OBJECT));
+        return Some(up_to(code, object, LAST_OBJECT));
     }
     if LAST_OBJECT < object {
-        return Named::NoObject;
+        return None;
     }
-    Named::Part(Part::Objects(code, object, object))
+    Some(Part::Objects(code, object, object))
 }
 
 // The objects up to `last`: from the one named, or from 00h if that lies outside.

@@ -7,9 +7,7 @@
 #![tactic(auto)]
 
 use card::{Card, Protocol};
-use clock::Time;
 use identity::Identity;
-use protocols::Named;
 use std::env::FillError;
 use std::fmt::InlineText;
 use std::fs::OpenOptions;
@@ -42,7 +40,7 @@ fn fail(rt: &impl Eprint, what: &str, error: io::Error) -> io::Result<()> {
 }
 
 // The time that the clock tells now.
-fn present(rt: &impl Clock) -> Time {
+fn present(rt: &impl Clock) -> Option<u64> {
     let told = clock::monotonic(rt);
     clock::time_of(told.status, told.seconds, told.nanoseconds)
 }
@@ -70,7 +68,7 @@ fn run<R: Clock + Print + Eprint, D: Read + Write>(
         if n == 0 {
             return Ok(());
         }
-        let Time::At(now) = present(rt) else {
+        let Some(now) = present(rt) else {
             return no_time(rt);
         };
         let passed = ticks::time_passed(last, now);
@@ -96,7 +94,7 @@ fn serve<R: Clock + Files + Print + Eprint>(
     protocol: Protocol,
     device: &str,
 ) -> io::Result<()> {
-    let Time::At(start) = present(rt) else {
+    let Some(start) = present(rt) else {
         return no_time(rt);
     };
     match OpenOptions::new().read(true).write(true).open(rt, device) {
@@ -118,7 +116,7 @@ fn main(rt: HostRuntime) -> io::Result<()> {
         return usage(&rt);
     }
     let n = rt.arg(1, &mut word).unwrap_or(0);
-    let Named::Protocol(protocol) = protocols::protocol_of(&word[..n]) else {
+    let Some(protocol) = protocols::protocol_of(&word[..n]) else {
         return usage(&rt);
     };
     let Ok(length) = rt.arg(2, &mut device) else {

@@ -6,27 +6,26 @@ ghost use Rattle.std.specs.Prelude.{◌≡◌, true, length};
 ghost use Rattle.base.specs.Buffers.{front};
 ghost use Rattle.master.specs.Sent.{sent_number, sent_of, bytes_sent};
 
-// What writing a request comes to.
+// Why a request is not written.
 #[derive(Clone, Copy)]
-pub enum Sent {
-    // 0: the message stands at the start of the buffer, so many bytes
-    Written(usize),
+pub enum Unsent {
     // 13: request cannot be said
     CannotBeSaid,
     // 10: buffer too short
     ShortBuffer,
 }
 
-impl Sent {
-    // Document 01's number.
-    pub fn number(self) -> u32
-        ensures { result ≡ sent_number self }
-    {
-        match self {
-            Sent::Written(_) => 0,
-            Sent::CannotBeSaid => 13,
-            Sent::ShortBuffer => 10,
-        }
+// What writing a request comes to: so many bytes of message stand at the start of the buffer, which is 0, or why none do.
+pub type Sent = Result<usize, Unsent>;
+
+// Document 01's number.
+pub fn number_of(sent: Sent) -> u32
+    ensures { result ≡ sent_number sent }
+{
+    match sent {
+        Ok(_) => 0,
+        Err(Unsent::CannotBeSaid) => 13,
+        Err(Unsent::ShortBuffer) => 10,
     }
 }
 
@@ -36,8 +35,8 @@ pub fn send(message: &[u8], out: &mut [u8]) -> Sent
     ensures lent { out.new ≡ front (bytes_sent true message.now (length out.old)) out.old }
 {
     if out.len() < message.len() {
-        return Sent::ShortBuffer;
+        return Err(Unsent::ShortBuffer);
     }
     out[..message.len()].copy_from_slice(message);
-    Sent::Written(message.len())
+    Ok(message.len())
 }

@@ -1,4 +1,5 @@
 -- What a text answers, by the code's tests and calls. Assumes nothing.
+use Rattle.std.proofs.Common.{None}
 use mathlib.Core.Path.{◌≡◌, refl, sym, ap, ap₂, ◌∙◌}
 use mathlib.Core.Bool.{Bool, true, false}
 use mathlib.Core.List.{List, [], ◌∷◌}
@@ -16,7 +17,6 @@ use Rattle.checks.specs.Lrc.{adds_to_zero}
 use Rattle.ascii.specs.Ascii.{bytes_in, right, formed, unit_among}
 use Rattle.ascii.proofs.Message.{counted_in}
 use Rattle.master_reply.specs.declared.Heard.{Heard}
-use Rattle.master_reply.specs.declared.Reply.TheVariants.{NotAReply}
 use Rattle.master_reply.specs.Reply.{heard, heard_of}
 use Rattle.master_ascii.specs.Heard.{framed, ascii_heard}
 use Rattle.master_ascii.proofs.Texts.{inner, inner_few, inner_least, inner_bytes, inner_formed, formed_framed, formed_whole}
@@ -35,14 +35,14 @@ unit_part k b h l =
     from_second n (x ∷ s) = refl
 
 -- ---- a text that is no message
-no_message : (m : List ℕ) (x : Heard) → formed m ≡ false → x ≡ heard NotAReply [] → x ≡ ascii_heard m
+no_message : (m : List ℕ) (x : Heard) → formed m ≡ false → x ≡ heard None [] → x ≡ ascii_heard m
 unfolding ascii_heard
 no_message m x h e = rw h e
 
-pub unframed : (m : List ℕ) (x : Heard) → framed m ≡ false → x ≡ heard NotAReply [] → x ≡ ascii_heard m
+pub unframed : (m : List ℕ) (x : Heard) → framed m ≡ false → x ≡ heard None [] → x ≡ ascii_heard m
 unframed m x h e = no_message m x (is_false (formed m) (λ f. not_both (formed_framed m f) h)) e
 
-pub not_whole : (m : List ℕ) (x : Heard) (k : ℕ) → k ≡ length (bytes_of (inner m)) → (2 * k + 3 ≡ length m → ⊥) → x ≡ heard NotAReply [] → x ≡ ascii_heard m
+pub not_whole : (m : List ℕ) (x : Heard) (k : ℕ) → k ≡ length (bytes_of (inner m)) → (2 * k + 3 ≡ length m → ⊥) → x ≡ heard None [] → x ≡ ascii_heard m
 not_whole m x k c n e = no_message m x (is_false (formed m) (λ f. n (ap (λ (i : ℕ). 2 * i + 3) c ∙ formed_whole m f))) e
 
 -- ---- a framed text, with k bytes between
@@ -96,7 +96,7 @@ module _ (m : List ℕ) (k : ℕ) (count : k ≡ length (bytes_of (inner m))) (f
           ∙ ap (λ (t : Bool). both t (adds_to_zero (bytes_in m))) (counted_in (bytes_in m) (omega (arith, three)) (omega (arith, few)))
           ∙ ap adds_to_zero (sym taken)
 
-      pub sum_wrong : (x : Heard) → adds_to_zero (take (k - 0) b) ≡ false → x ≡ heard NotAReply [] → x ≡ ascii_heard m
+      pub sum_wrong : (x : Heard) → adds_to_zero (take (k - 0) b) ≡ false → x ≡ heard None [] → x ≡ ascii_heard m
       sum_wrong x h e = no_message m x (by_sum ∙ h) e
 
       pub sum_right : (x : Heard) → adds_to_zero (take (k - 0) b) ≡ true → x ≡ heard_of (get_or b 0 0) (take (k - 1 - 1) (drop 1 b)) → x ≡ ascii_heard m

@@ -1,4 +1,5 @@
 -- What the code makes of a request: the message of the address and the unit is put where it fits. Assumes nothing.
+use Rattle.std.proofs.Common.{Ok, Err}
 use mathlib.Core.Path.{◌≡◌, refl, sym, ap, ◌∙◌}
 use mathlib.Core.Bool.{Bool, true, false}
 use mathlib.Core.List.{List, [], ◌∷◌, ◌++◌}
@@ -12,7 +13,7 @@ use Rattle.base.proofs.Sets.{fitting_all, fitting_none}
 use Rattle.checks.specs.Lrc.{lrc_of}
 use Rattle.ascii.specs.Ascii.{text_of, with_lrc, ascii_of}
 use Rattle.ascii.proofs.Message.{text_length}
-use Rattle.master.specs.declared.Sent.TheVariants.{Written, ShortBuffer}
+use Rattle.master.specs.declared.Unsent.TheVariants.{ShortBuffer}
 use Rattle.master.specs.Sent.{sent_of, bytes_sent}
 use Rattle.master.proofs.Sends.{short_sent, short_bytes, written_sent, written_bytes}
 use Rattle.master_request.specs.declared.Ask.{Ask}
@@ -55,11 +56,11 @@ module _ (a : ℕ) (ask : Ask) (s : List ℕ) (b : Body) (made : b ≡ body_with
     unfolding m
     told = count ∙ ap (λ (y : List ℕ). length (fitting y (length t))) message
 
-    pub text_short : r ≡ 0 → ShortBuffer ≡ sent_of (sayable a ask (length s)) (ascii_of a (request_unit ask s)) (length t)
+    pub text_short : r ≡ 0 → (Err ShortBuffer) ≡ sent_of (sayable a ask (length s)) (ascii_of a (request_unit ask s)) (length t)
     unfolding m
     text_short e = short_sent (sayable a ask (length s)) m t (said a ask s b made some) (too_short m t some_text r told e)
 
-    pub text_sent : (r ≡ 0 → ⊥) → Written r ≡ sent_of (sayable a ask (length s)) (ascii_of a (request_unit ask s)) (length t)
+    pub text_sent : (r ≡ 0 → ⊥) → Ok r ≡ sent_of (sayable a ask (length s)) (ascii_of a (request_unit ask s)) (length t)
     unfolding m
     text_sent n =
         let fits : length m ≤ length t = has_room m t some_text r told n in

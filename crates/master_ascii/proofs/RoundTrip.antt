@@ -1,5 +1,6 @@
 -- Demand 2: what the master side writes is read by the card as that same request, and each reply is read back as what was answered; and nothing else is
 -- read as a reply. Assumes nothing.
+use Rattle.std.proofs.Common.{Option}
 use mathlib.Core.Path.{◌≡◌, sym, ap, ◌∙◌}
 use mathlib.Core.Bool.{true}
 use mathlib.Core.List.{List, ◌∷◌}
@@ -61,7 +62,7 @@ unfolding AllBelow
 answer_back i a x b h k w =
     made a (unit_of i x) (omega (arith, h.1), units.unit_below i x b w) (units.unit_some i x) (omega (arith, units.unit_short i x)) ∙ answer_heard i a x h k
 
-pub reply_back : (r : Reply) (ws : List ℕ) → IsReply r → length ws ≡ registers_of r → InWidth r ws → (m : List ℕ) → capitals m ≡ ascii_of (address_of r) (reply_unit r ws)
+pub reply_back : (r : Option Reply) (ws : List ℕ) → IsReply r → length ws ≡ registers_of r → InWidth r ws → (m : List ℕ) → capitals m ≡ ascii_of (address_of r) (reply_unit r ws)
     → ascii_heard m ≡ heard r ws
 reply_back r ws h e w m is =
     sym (heard_in_capitals m) ∙ ap ascii_heard is ∙ made (address_of r) (reply_unit r ws) (reply_below r ws h e w) (reply_some r ws h) (omega (arith, reply_most r ws h e)) ∙ reply_heard r ws h e

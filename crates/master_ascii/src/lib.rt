@@ -1,17 +1,16 @@
 // The master's end of a Modbus ASCII line: `write_request` puts the message of what is asked, `read_reply` tells what a message answers.
 #![tactic(auto)]
 
-ghost use Rattle.std.specs.Prelude.{◌≡◌, [], length};
+ghost use Rattle.std.specs.Prelude.{◌≡◌, [], length, None};
 ghost use Rattle.base.specs.Buffers.{front};
 ghost use Rattle.ascii.specs.Ascii.{ascii_of};
 ghost use Rattle.master.specs.Sent.{sent_of, bytes_sent};
 ghost use Rattle.master_request.specs.Ask.{sayable, request_unit};
 ghost use Rattle.master_reply.specs.Reply.{heard};
-ghost use Rattle.master_reply.specs.declared.Reply.TheVariants.{NotAReply};
 ghost use Rattle.master_ascii.specs.Heard.{framed, ascii_heard};
 
-use master::Sent;
-use master_reply::{Heard, Reply, read_unit};
+use master::{Sent, Unsent};
+use master_reply::{Heard, read_unit};
 use master_request::{Ask, body_of};
 
 // Puts the message of what is asked at the start of `out`: 13 where it cannot be said, then 10 where it does not fit. `registers` are the register bytes of
@@ -23,23 +22,23 @@ pub fn write_request(address: u8, ask: Ask, registers: &[u8], out: &mut [u8]) ->
     let body = body_of(address, ask, registers);
     let end = body.size;
     if end == 0 {
-        return Sent::CannotBeSaid;
+        return Err(Unsent::CannotBeSaid);
     }
     let bytes = body.bytes;
     let size = ascii::put_text(&bytes[0..end], out);
     if size == 0 {
-        return Sent::ShortBuffer;
+        return Err(Unsent::ShortBuffer);
     }
-    Sent::Written(size)
+    Ok(size)
 }
 
 // No reply.
 fn nothing() -> Heard
-    ensures { result ≡ heard NotAReply [] }
+    ensures { result ≡ heard None [] }
 {
     Heard {
         words: [0u16; 125],
-        reply: Reply::NotAReply,
+        reply: None,
     }
 }
 

@@ -1,4 +1,5 @@
 -- The requests: when they can be said, and what the code's arrays hold. Assumes nothing.
+use Rattle.std.proofs.Common.{Result}
 use mathlib.Core.Path.{◌≡◌, ap, ◌∙◌}
 use mathlib.Core.Bool.{Bool, true, false, not}
 use mathlib.Core.List.{List, [], ◌∷◌, ◌++◌}
@@ -11,10 +12,10 @@ use Rattle.base.specs.Buffers.{front, fitting}
 use Rattle.base.proofs.Tests.{both_out, is_false}
 use Rattle.hex_pairs.specs.Hex.{hex_of}
 use Rattle.nfo_parts.specs.Replies.{digits_of, reply_of}
-use Rattle.master.specs.declared.Sent.{Sent}
 use Rattle.master.specs.Sent.{sent_of, bytes_sent}
 use Rattle.master.proofs.Sends.{said_sent, said_lent}
 use Rattle.master_nfo.specs.Requests.{enquirable, selectable, enquiry_of, select_of}
+use Rattle.master.specs.declared.Unsent.{Unsent}
 
 -- ---- when a request can be said: "addresses above 95 .., a broadcast read"
 module _ (a : ℕ) where
@@ -45,7 +46,7 @@ module _ (a : ℕ) where
 
 -- ---- a message that the code made, put
 module _ (t : Bool) (h : t ≡ true) (made message : List ℕ) (q : made ≡ message) (n : ℕ) where
-  pub made_sent : (r : Sent) → r ≡ sent_of true made n → r ≡ sent_of t message n
+  pub made_sent : (r : Result ℕ Unsent) → r ≡ sent_of true made n → r ≡ sent_of t message n
   made_sent r e = said_sent t message [] h n r (e ∙ ap (λ (m : List ℕ). sent_of true m n) q)
 
   pub made_lent : (buf out : List ℕ) → out ≡ front (bytes_sent true made n) buf → out ≡ front (bytes_sent t message n) buf

@@ -1,4 +1,5 @@
 -- The bytes of a REPLY: what has these characters for number and value has its shape, check and hex, and what has them is such a text. Assumes nothing.
+use Rattle.std.proofs.Common.{Option, Some, None}
 use mathlib.Core.Path.{◌≡◌, refl, sym, ap, ◌∙◌}
 use mathlib.Core.Bool.{Bool, true, false}
 use mathlib.Core.List.{List, ◌∷◌}
@@ -13,9 +14,6 @@ use Rattle.checks.specs.Bcc.{bcc_of}
 use Rattle.table.specs.declared.labels.ENumber.{ENumber}
 use Rattle.nfo.specs.Shape.{any, fits, whole}
 use Rattle.nfo.specs.Message.{ADR, enquiry, select, bcc_in, formed}
-use Rattle.nfo_parts.specs.declared.message.Parameter.TheVariants.{Number, NoNumber}
-use Rattle.nfo_parts.specs.declared.message.Value.{Value}
-use Rattle.nfo_parts.specs.declared.message.Value.TheVariants.{Word, NotHex}
 use Rattle.nfo_parts.specs.Parts.{number_in, parameter_at, value_at}
 use Rattle.nfo_parts.specs.Replies.{Spells, reply_with}
 use Rattle.nfo.proofs.Shape.{whole_length, whole_at}
@@ -29,11 +27,11 @@ module _ (adr e w : ℕ) (number value : List ℕ) (p : Spells number e) (v : Sp
   pub reply_length : length (reply_with adr number value) ≡ 14
   reply_length = let f = four number e p in let g = four value w v in rw (f.are, g.are)
 
-  pub reply_parameter : e < 65536 → parameter_at 2 (reply_with adr number value) ≡ Number (record { 0 = e })
+  pub reply_parameter : e < 65536 → parameter_at 2 (reply_with adr number value) ≡ Some (record { 0 = e })
   unfolding parameter_at value_at
   reply_parameter h = let f = four number e p in rw f.are (ap number_in (f.value h))
 
-  pub reply_value : w < 65536 → value_at 8 (reply_with adr number value) ≡ Word w
+  pub reply_value : w < 65536 → value_at 8 (reply_with adr number value) ≡ Some w
   unfolding value_at
   reply_value h = let f = four number e p in let g = four value w v in rw (f.are, g.are) (g.value h)
 
@@ -62,13 +60,13 @@ reply_replied adr e w number value p v a =
 
 -- ---- what has shape, check and hex is such a text
 -- a parameter that is a number is `E` and its digits
-pub parameter_out : (s : List ℕ) (i : ℕ) (e : ENumber) → parameter_at i s ≡ Number e → (get_or s i 0 ≡ 0x45) × (value_at (i + 1) s ≡ Word e.0)
+pub parameter_out : (s : List ℕ) (i : ℕ) (e : ENumber) → parameter_at i s ≡ Some e → (get_or s i 0 ≡ 0x45) × (value_at (i + 1) s ≡ Some e.0)
 unfolding parameter_at
 parameter_out s i e = go (eqb (get_or s i 0) 0x45) (value_at (i + 1) s) refl refl
   where
-    go : (t : Bool) (v : Value) → eqb (get_or s i 0) 0x45 ≡ t → value_at (i + 1) s ≡ v → pick t (number_in v) NoNumber ≡ Number e → (get_or s i 0 ≡ 0x45) × (value_at (i + 1) s ≡ Word e.0)
-    go true (Word n) p q h = (eqb-true (get_or s i 0) 0x45 p, cc)
-    go true NotHex p q h = never (cc)
+    go : (t : Bool) (v : Option ℕ) → eqb (get_or s i 0) 0x45 ≡ t → value_at (i + 1) s ≡ v → pick t (number_in v) None ≡ Some e → (get_or s i 0 ≡ 0x45) × (value_at (i + 1) s ≡ Some e.0)
+    go true (Some n) p q h = (eqb-true (get_or s i 0) 0x45 p, cc)
+    go true None p q h = never (cc)
     go false v p q h = never (cc)
 
 pub record Written (s : List ℕ) (e w : ℕ) : Type 0 where
@@ -77,7 +75,7 @@ pub record Written (s : List ℕ) (e w : ℕ) : Type 0 where
   pub value : (w < 65536) × Spells (characters_at 8 s) w
   pub same : s ≡ reply_with (get_or s 0 0) (characters_at 3 s) (characters_at 8 s)
 
-pub replied_written : (s : List ℕ) (e : ENumber) (w : ℕ) → replied s ≡ true → parameter_at 2 s ≡ Number e → value_at 8 s ≡ Word w → Written s e.0 w
+pub replied_written : (s : List ℕ) (e : ENumber) (w : ℕ) → replied s ≡ true → parameter_at 2 s ≡ Some e → value_at 8 s ≡ Some w → Written s e.0 w
 unfolding replied checked reply
 replied_written s e w h p v =
     let r = both_out (whole reply s) (checked s) h in

@@ -1,4 +1,5 @@
 -- Document 01's cases come out as it says, by computation. Assumes nothing.
+use Rattle.std.proofs.Common.{Option}
 use mathlib.Core.Path.{◌≡◌, refl}
 use mathlib.Core.List.{List, map}
 use Prim.Native.Nat.{ℕ}
@@ -16,6 +17,6 @@ pub requests_written : map (λ (t : List ℕ × List ℕ). t.0) requests ≡ map
 unfolding enquiry_of select_of digits_of hex_of digit_of bcc_of
 requests_written = refl
 
-pub replies_read : map (λ (t : List ℕ × Reply). read_of t.0) replies ≡ map (λ (t : List ℕ × Reply). t.1) replies
+pub replies_read : map (λ (t : List ℕ × Option Reply). read_of t.0) replies ≡ map (λ (t : List ℕ × Option Reply). t.1) replies
 unfolding read_of reply ack nak checked replied whole bcc_of value_at parameter_at pair_value digit_value
 replies_read = refl

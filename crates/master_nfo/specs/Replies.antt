@@ -1,24 +1,21 @@
 -- What the master reads: REPLY, ACK and NAK, and nothing else. Assumes nothing.
-use Rattle.std.specs.Prelude.{Bool, List, [], ◌∷◌, ℕ, ◌-◌, eqb, get_or, take, drop}
+use Rattle.std.specs.Prelude.{Bool, List, [], ◌∷◌, ℕ, ◌-◌, eqb, get_or, take, drop, Option, Some, None}
 use Rattle.base.specs.Choice.{both}
 use Rattle.base.specs.Order.{when, first_of}
 use Rattle.checks.specs.Bcc.{bcc_of}
 use Rattle.nfo.specs.Shape.{Kind, byte, whole}
 use Rattle.nfo.specs.Message.{ADR, p, v, BCC}
-use Rattle.nfo_parts.specs.declared.message.Parameter.{Parameter}
-use Rattle.nfo_parts.specs.declared.message.Parameter.TheVariants.{Number, NoNumber}
-use Rattle.nfo_parts.specs.declared.message.Value.{Value}
-use Rattle.nfo_parts.specs.declared.message.Value.TheVariants.{Word, NotHex}
 use Rattle.nfo_parts.specs.Parts.{parameter_at, value_at}
 use Rattle.master_nfo.specs.declared.replies.Reply.{Reply}
-use Rattle.master_nfo.specs.declared.replies.Reply.TheVariants.{Told, Acknowledged, Refused, NotAReply}
+use Rattle.master_nfo.specs.declared.replies.Reply.TheVariants.{Told, Acknowledged, Refused}
+use Rattle.table.specs.declared.labels.ENumber.{ENumber}
 
 -- document 01's numbers: the column No
-abbrev pub reply_number : Reply → ℕ
-reply_number (Told address e word) = 0
-reply_number (Acknowledged address) = 0
-reply_number (Refused address) = 0
-reply_number NotAReply = 14
+abbrev pub reply_number : Option Reply → ℕ
+reply_number (Some (Told address e word)) = 0
+reply_number (Some (Acknowledged address)) = 0
+reply_number (Some (Refused address)) = 0
+reply_number None = 14
 
 -- REPLY, 14 bytes (S2):  ADR 02 p p p p p 3D v v v v 03 BCC
 -- place:                 0   1  2       6 7  8    11 12 13
@@ -41,19 +38,19 @@ unfoldable pub replied : List ℕ → Bool
 replied s = both (whole reply s) (checked s)
 
 -- "and hex above": the parameter is `E` and four hex digits, the value four hex digits
-abbrev pub told_by : ℕ → Parameter → Value → Reply
-told_by address (Number e) (Word word) = Told address e word
-told_by address (Number e) NotHex = NotAReply
-told_by address NoNumber value = NotAReply
+abbrev pub told_by : ℕ → Option ENumber → Option ℕ → Option Reply
+told_by address (Some e) (Some word) = Some (Told address e word)
+told_by address (Some e) None = None
+told_by address None value = None
 
 -- "ADR is address + 32"
 abbrev pub address_heard : List ℕ → ℕ
 address_heard s = get_or s 0 0 - 32
 
 -- "a reply must fill its slice exactly, with the shape, check and hex above .. Else 14, and only then."
-unfoldable pub read_of : List ℕ → Reply
+unfoldable pub read_of : List ℕ → Option Reply
 read_of s =
-    first_of (when (whole ack s) (Acknowledged (address_heard s))
-    ∷ when (whole nak s) (Refused (address_heard s))
+    first_of (when (whole ack s) (Some (Acknowledged (address_heard s)))
+    ∷ when (whole nak s) (Some (Refused (address_heard s)))
     ∷ when (replied s) (told_by (address_heard s) (parameter_at 2 s) (value_at 8 s))
-    ∷ []) NotAReply
+    ∷ []) None

@@ -5,5 +5,5 @@
 mod replies;
 mod requests;
 
-pub use replies::{Reply, read_reply};
+pub use replies::{Reply, number_of, read_reply};
 pub use requests::{enquiry, select};

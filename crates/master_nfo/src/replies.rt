@@ -6,8 +6,6 @@ ghost use Rattle.nfo_parts.specs.Parts.{value_at};
 ghost use Rattle.master_nfo.specs.Replies.{reply_number, checked, read_of};
 ghost use Rattle.master_nfo.specs.Frame.{marked, framed};
 
-use hex_pairs::Pair;
-use nfo_parts::Value;
 use table::ENumber;
 
 // What a reply says, with the address that it comes from.
@@ -19,26 +17,20 @@ pub enum Reply {
     Acknowledged(u8),
     // 0: NAK
     Refused(u8),
-    // 14: not a reply
-    NotAReply,
 }
 
-impl Reply {
-    // Document 01's number.
-    pub fn number(self) -> u32
-        ensures { result ≡ reply_number self }
-    {
-        match self {
-            Reply::Told(_, _, _) => 0,
-            Reply::Acknowledged(_) => 0,
-            Reply::Refused(_) => 0,
-            Reply::NotAReply => 14,
-        }
+// Document 01's number: 14 is not a reply.
+pub fn number_of(reply: Option<Reply>) -> u32
+    ensures { result ≡ reply_number reply }
+{
+    match reply {
+        Some(_) => 0,
+        None => 14,
     }
 }
 
 // Reads a reply, which must fill `bytes` exactly. It is not matched with a request.
-pub fn read_reply(bytes: &[u8]) -> Reply
+pub fn read_reply(bytes: &[u8]) -> Option<Reply>
     ensures { result ≡ read_of bytes.now }
 {
     if bytes.len() == 2 {
@@ -47,42 +39,42 @@ pub fn read_reply(bytes: &[u8]) -> Reply
     if bytes.len() == 14 {
         return long_reply(bytes);
     }
-    Reply::NotAReply
+    None
 }
 
 // ACK:  ADR 06
 // NAK:  ADR 15
-fn short_reply(adr: u8, code: u8) -> Reply
+fn short_reply(adr: u8, code: u8) -> Option<Reply>
     ensures { result ≡ read_of (adr ∷ code ∷ []) }
 {
     if !is_adr(adr) {
-        return Reply::NotAReply;
+        return None;
     }
     if code == 0x06 {
-        return Reply::Acknowledged(adr - 32);
+        return Some(Reply::Acknowledged(adr - 32));
     }
     if code == 0x15 {
-        return Reply::Refused(adr - 32);
+        return Some(Reply::Refused(adr - 32));
     }
-    Reply::NotAReply
+    None
 }
 
 // place:  0   1  2       6 7  8    11 12 13
 // REPLY:  ADR 02 p p p p p 3D v v v v 03 BCC
-fn long_reply(bytes: &[u8]) -> Reply
+fn long_reply(bytes: &[u8]) -> Option<Reply>
     requires { length bytes.now ≡ 14 }
     ensures { result ≡ read_of bytes.now }
 {
     if !is_framed(bytes) {
-        return Reply::NotAReply;
+        return None;
     }
-    let Value::Word(e) = value_at(bytes, 3) else {
-        return Reply::NotAReply;
+    let Some(e) = value_at(bytes, 3) else {
+        return None;
     };
-    let Value::Word(word) = value_at(bytes, 8) else {
-        return Reply::NotAReply;
+    let Some(word) = value_at(bytes, 8) else {
+        return None;
     };
-    Reply::Told(bytes[0] - 32, ENumber(e), word)
+    Some(Reply::Told(bytes[0] - 32, ENumber(e), word))
 }
 
 // Whether all but the digits is a REPLY's: ADR, 02, `E`, `=`, 03 and BCC.
@@ -134,17 +126,17 @@ fn is_marked(a: u8, b: u8, c: u8, d: u8) -> bool
 }
 
 // The word that four hex digits spell, the high one first.
-fn value_at(bytes: &[u8], at: usize) -> Value
+fn value_at(bytes: &[u8], at: usize) -> Option<u16>
     requires { at + 4 ≤ length bytes.now }
     ensures { result ≡ value_at at bytes.now }
 {
-    let Pair::Byte(high) = hex_pairs::pair_value(bytes[at], bytes[at + 1]) else {
-        return Value::NotHex;
+    let Some(high) = hex_pairs::pair_value(bytes[at], bytes[at + 1]) else {
+        return None;
     };
-    let Pair::Byte(low) = hex_pairs::pair_value(bytes[at + 2], bytes[at + 3]) else {
-        return Value::NotHex;
+    let Some(low) = hex_pairs::pair_value(bytes[at + 2], bytes[at + 3]) else {
+        return None;
     };
-    Value::Word(word(high, low))
+    Some(word(high, low))
 }
 
 // Two bytes as a word, the high one first.

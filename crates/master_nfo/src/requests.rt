@@ -5,7 +5,7 @@ ghost use Rattle.base.specs.Buffers.{front};
 ghost use Rattle.master.specs.Sent.{sent_of, bytes_sent};
 ghost use Rattle.master_nfo.specs.Requests.{enquirable, selectable, enquiry_of, select_of};
 
-use master::{Sent, send};
+use master::{Sent, Unsent, send};
 use table::ENumber;
 
 // ENQUIRY: asks for the parameter's word. It cannot be said to 95, which is broadcast.
@@ -17,7 +17,7 @@ pub fn enquiry(address: u8, e: ENumber, out: &mut [u8]) -> Sent
         let m = enquiry_to(address, e);
         return send(&m, out);
     }
-    Sent::CannotBeSaid
+    Err(Unsent::CannotBeSaid)
 }
 
 // SELECT: writes the parameter's word, two's complement. To 95 it is for all.
@@ -29,7 +29,7 @@ pub fn select(address: u8, e: ENumber, word: u16, out: &mut [u8]) -> Sent
         let m = select_to(address, e, word);
         return send(&m, out);
     }
-    Sent::CannotBeSaid
+    Err(Unsent::CannotBeSaid)
 }
 
 // place:    0  1   2       6 7

@@ -1,4 +1,5 @@
 -- What is read as a reply is one, and its unit is that reply's: "Else 14, and only then". Assumes nothing.
+use Rattle.std.proofs.Common.{Option, Some}
 use mathlib.Core.Path.{◌≡◌, refl, sym, ap, ap₂, ◌∙◌}
 use mathlib.Core.Bool.{true}
 use mathlib.Core.List.{List, [], ◌∷◌, ◌++◌}
@@ -51,13 +52,13 @@ within_out low high n e =
     let h = both_out (leb low n) (leb n high) e in
     (leb-true low n h.0, leb-true n high h.1)
 
-record Told (a : ℕ) (u : List ℕ) (r : Reply) : Type 0 where
+record Told (a : ℕ) (u : List ℕ) (r : Option Reply) : Type 0 where
   address : address_of r ≡ a
   is : IsReply r
   unit : u ≡ reply_unit r (words_from u 2 (registers_of r))
 
 module _ (a : ℕ) (u : List ℕ) (below : Bytes u) (w : Within 1 247 a) where
-  data_only : tells_data (length u) (get_or u 0 0) (get_or u 1 0) ≡ true → Told a u (Data a (get_or u 0 0) (get_or u 1 0 / 2))
+  data_only : tells_data (length u) (get_or u 0 0) (get_or u 1 0) ≡ true → Told a u (Some (Data a (get_or u 0 0) (get_or u 1 0 / 2)))
   unfolding tells_data reply_unit
   data_only e =
       let f : ℕ = get_or u 0 0 in
@@ -73,7 +74,7 @@ module _ (a : ℕ) (u : List ℕ) (below : Bytes u) (w : Within 1 247 a) where
         unit = data_unit u (b / 2) below (omega (arith, even)) even;
       }
 
-  one_only : tells_one (length u) (get_or u 0 0) ≡ true → Told a u (One a (label (word_at u 1)) (word_at u 3))
+  one_only : tells_one (length u) (get_or u 0 0) ≡ true → Told a u (Some (One a (label (word_at u 1)) (word_at u 3)))
   unfolding tells_one reply_unit
   one_only e =
       let h = both_out (eqb (get_or u 0 0) 6) (eqb (length u) 5) e in
@@ -83,7 +84,7 @@ module _ (a : ℕ) (u : List ℕ) (below : Bytes u) (w : Within 1 247 a) where
         unit = echo_unit u below (eqb-true (length u) 5 h.1) ∙ ap (λ (f : ℕ). f ∷ word_bytes (word_at u 1) ++ word_bytes (word_at u 3)) (eqb-true (get_or u 0 0) 6 h.0);
       }
 
-  many_only : tells_many (length u) (get_or u 0 0) (word_at u 3) ≡ true → Told a u (Many a (label (word_at u 1)) (word_at u 3))
+  many_only : tells_many (length u) (get_or u 0 0) (word_at u 3) ≡ true → Told a u (Some (Many a (label (word_at u 1)) (word_at u 3)))
   unfolding tells_many reply_unit
   many_only e =
       let h = both_out (eqb (get_or u 0 0) 16) (both (eqb (length u) 5) (between 1 123 (word_at u 3))) e in
@@ -94,7 +95,7 @@ module _ (a : ℕ) (u : List ℕ) (below : Bytes u) (w : Within 1 247 a) where
         unit = echo_unit u below (eqb-true (length u) 5 k.0) ∙ ap (λ (f : ℕ). f ∷ word_bytes (word_at u 1) ++ word_bytes (word_at u 3)) (eqb-true (get_or u 0 0) 16 h.0);
       }
 
-  exception_only : tells_exception (length u) (get_or u 0 0) (get_or u 1 0) ≡ true → Told a u (Exception a (get_or u 0 0) (get_or u 1 0))
+  exception_only : tells_exception (length u) (get_or u 0 0) (get_or u 1 0) ≡ true → Told a u (Some (Exception a (get_or u 0 0) (get_or u 1 0)))
   unfolding tells_exception reply_unit
   exception_only e =
       let h = both_out (leb 0x80 (get_or u 0 0)) (both (eqb (length u) 2) (between 1 4 (get_or u 1 0))) e in
@@ -106,7 +107,7 @@ module _ (a : ℕ) (u : List ℕ) (below : Bytes u) (w : Within 1 247 a) where
       }
 
 -- 14 is told of all else
-abbrev ToldOr14 : ℕ → List ℕ → Reply → Type 0
+abbrev ToldOr14 : ℕ → List ℕ → Option Reply → Type 0
 ToldOr14 a u r = reply_number r ≡ 0 → Told a u r
 
 reply_only : (a : ℕ) (u : List ℕ) → Bytes u → reply_number (reply_of a u) ≡ 0 → Told a u (reply_of a u)

@@ -1,4 +1,5 @@
 -- What the code's tests and calls show of a reply's unit, and the loop that takes its words, turn by turn. Assumes nothing.
+use Rattle.std.proofs.Common.{Option, None}
 use mathlib.Core.Path.{◌≡◌, refl, sym, ap, ◌∙◌}
 use mathlib.Core.Bool.{true}
 use mathlib.Core.List.{List, ◌∷◌}
@@ -18,20 +19,19 @@ use Rattle.modbus_words.specs.Words.{word_at}
 use Rattle.modbus.specs.Request.{between}
 use Rattle.master_reply.specs.declared.Heard.{Heard}
 use Rattle.master_reply.specs.declared.Reply.{Reply}
-use Rattle.master_reply.specs.declared.Reply.TheVariants.{NotAReply}
 use Rattle.master_reply.specs.Reply.{read_count, tells_data, tells_one, tells_many, tells_exception, unit_tells, reply_of, registers_of, words_from, heard_of}
 
 -- ---- what was read of the unit is what the definition reads
-pub reply_read : (a : ℕ) (u : List ℕ) (f b r n : ℕ) (x : Reply) → 1 ≤ a → a ≤ 247 → f ≡ get_or u 0 0 → b ≡ get_or u 1 0 → r ≡ word_at u 1 → n ≡ word_at u 3
+pub reply_read : (a : ℕ) (u : List ℕ) (f b r n : ℕ) (x : Option Reply) → 1 ≤ a → a ≤ 247 → f ≡ get_or u 0 0 → b ≡ get_or u 1 0 → r ≡ word_at u 1 → n ≡ word_at u 3
     → x ≡ unit_tells a (length u) f b r n → x ≡ reply_of a u
 unfolding reply_of
 reply_read a u f b r n x l h p q s o e = simp (le-leb 1 a l, le-leb a 247 h) (rw (← p, ← q, ← s, ← o) e)
 
-pub reply_low : (a : ℕ) (u : List ℕ) → a < 1 → NotAReply ≡ reply_of a u
+pub reply_low : (a : ℕ) (u : List ℕ) → a < 1 → None ≡ reply_of a u
 unfolding reply_of
 reply_low a u h = simp (lt-leb 1 a h)
 
-pub reply_high : (a : ℕ) (u : List ℕ) → 247 < a → NotAReply ≡ reply_of a u
+pub reply_high : (a : ℕ) (u : List ℕ) → 247 < a → None ≡ reply_of a u
 unfolding reply_of
 reply_high a u h = simp (le-leb 1 a (omega arith), lt-leb a 247 h)
 
@@ -84,7 +84,7 @@ count_out b e =
     let k = both_out (leb 2 b) (leb b 250) h.1 in
     (eqb-true (b % 2) 0 h.0, leb-true 2 b k.0, leb-true b 250 k.1)
 
-abbrev Few : Reply → Type 0
+abbrev Few : Option Reply → Type 0
 Few r = registers_of r ≤ 125
 
 pub reply_few : (a : ℕ) (u : List ℕ) → registers_of (reply_of a u) ≤ 125
@@ -101,10 +101,10 @@ reply_few a u =
     (λ _. pick_both Few (tells_exception n f b) (λ _. omega arith) (λ _. omega arith)))))
     (λ _. omega arith)
 
-pub count_few : (a : ℕ) (u : List ℕ) (r : Reply) (n : ℕ) → r ≡ reply_of a u → n ≡ registers_of r → n ≤ 125
+pub count_few : (a : ℕ) (u : List ℕ) (r : Option Reply) (n : ℕ) → r ≡ reply_of a u → n ≡ registers_of r → n ≤ 125
 count_few a u r n e h = rw (h, e) (reply_few a u)
 
-pub heard_read : (a : ℕ) (u : List ℕ) (r : Reply) (n : ℕ) (w : List ℕ) → r ≡ reply_of a u → n ≡ registers_of r → w ≡ front (words_from u 2 n) (replicate 125 0)
+pub heard_read : (a : ℕ) (u : List ℕ) (r : Option Reply) (n : ℕ) (w : List ℕ) → r ≡ reply_of a u → n ≡ registers_of r → w ≡ front (words_from u 2 n) (replicate 125 0)
     → ◌≡◌ {A = Heard} (record { words = w; reply = r }) (heard_of a u)
 unfolding heard_of
 heard_read a u r n w e h k = rw (k, h, e)

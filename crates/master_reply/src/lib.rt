@@ -20,29 +20,22 @@ pub enum Reply {
     Many(u8, Register, u16),
     // a refusal: the address, the function with its top bit set, the exception's number
     Exception(u8, u8, u8),
-    // 14: not a reply
-    NotAReply,
 }
 
-// What a master hears, and the words of the registers that it read. Past these the words are 0.
+// What a master hears, if it is a reply, and the words of the registers that it read. Past these the words are 0.
 #[derive(Clone, Copy)]
 pub struct Heard {
     pub words: [u16; 125],
-    pub reply: Reply,
+    pub reply: Option<Reply>,
 }
 
-impl Reply {
-    // Document 01's number.
-    pub fn number(self) -> u32
-        ensures { result ≡ reply_number self }
-    {
-        match self {
-            Reply::Data(_, _, _) => 0,
-            Reply::One(_, _, _) => 0,
-            Reply::Many(_, _, _) => 0,
-            Reply::Exception(_, _, _) => 0,
-            Reply::NotAReply => 14,
-        }
+// Document 01's number: 14 is not a reply.
+pub fn number_of(reply: Option<Reply>) -> u32
+    ensures { result ≡ reply_number reply }
+{
+    match reply {
+        Some(_) => 0,
+        None => 14,
     }
 }
 
@@ -125,33 +118,33 @@ fn unit_tells(
     second: u8,
     register: u16,
     number: u16,
-) -> Reply
+) -> Option<Reply>
     ensures { result ≡ unit_tells address size function second register number }
 {
     if tells_data(size, function, second) {
-        return Reply::Data(address, function, (second / 2) as usize);
+        return Some(Reply::Data(address, function, (second / 2) as usize));
     }
     if tells_one(size, function) {
-        return Reply::One(address, Register(register), number);
+        return Some(Reply::One(address, Register(register), number));
     }
     if tells_many(size, function, number) {
-        return Reply::Many(address, Register(register), number);
+        return Some(Reply::Many(address, Register(register), number));
     }
     if tells_exception(size, function, second) {
-        return Reply::Exception(address, function, second);
+        return Some(Reply::Exception(address, function, second));
     }
-    Reply::NotAReply
+    None
 }
 
 // What a unit from an address tells.
-fn reply_of(address: u8, unit: &[u8]) -> Reply
+fn reply_of(address: u8, unit: &[u8]) -> Option<Reply>
     ensures { result ≡ reply_of address unit.now }
 {
     if address < 1 {
-        return Reply::NotAReply;
+        return None;
     }
     if 247 < address {
-        return Reply::NotAReply;
+        return None;
     }
     let function = byte_at(unit, 0);
     let second = byte_at(unit, 1);
@@ -167,15 +160,12 @@ fn reply_of(address: u8, unit: &[u8]) -> Reply
 }
 
 // How many registers a reply brings.
-fn registers_of(reply: Reply) -> usize
+fn registers_of(reply: Option<Reply>) -> usize
     ensures { result ≡ registers_of reply }
 {
     match reply {
-        Reply::Data(_, _, count) => count,
-        Reply::One(_, _, _) => 0,
-        Reply::Many(_, _, _) => 0,
-        Reply::Exception(_, _, _) => 0,
-        Reply::NotAReply => 0,
+        Some(Reply::Data(_, _, count)) => count,
+        _ => 0,
     }
 }
 

@@ -1,15 +1,15 @@
 -- What a frame answers, by the code's test of it. Assumes nothing.
+use Rattle.std.proofs.Common.{None}
 use mathlib.Core.Path.{◌≡◌, ap₂, ◌∙◌}
 use mathlib.Core.Bool.{true, false}
 use mathlib.Core.List.{List, []}
 use Prim.Native.Nat.{ℕ}
 use Rattle.rtu.specs.Rtu.{frame_holds, address_in, unit_in}
 use Rattle.master_reply.specs.declared.Heard.{Heard}
-use Rattle.master_reply.specs.declared.Reply.TheVariants.{NotAReply}
 use Rattle.master_reply.specs.Reply.{heard, heard_of}
 use Rattle.master_rtu.specs.Heard.{rtu_heard}
 
-pub heard_none : (f : List ℕ) → frame_holds f ≡ false → heard NotAReply [] ≡ rtu_heard f
+pub heard_none : (f : List ℕ) → frame_holds f ≡ false → heard None [] ≡ rtu_heard f
 unfolding rtu_heard
 heard_none f h = rw h
 

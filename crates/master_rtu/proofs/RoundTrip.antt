@@ -1,5 +1,6 @@
 -- Demand 2: what the master side writes is read by the card as that same request, and each reply is read back as what was answered; and nothing else is
 -- read as a reply. Assumes nothing.
+use Rattle.std.proofs.Common.{Option}
 use mathlib.Core.Path.{◌≡◌, ap, ◌∙◌}
 use mathlib.Core.Bool.{true}
 use mathlib.Core.List.{List, ◌∷◌}
@@ -65,7 +66,7 @@ made a u l h = rw (own_frame a u l h, own_address a u, own_unit a u)
 pub answer_back : (i : Identity) (a : ℕ) (x : Answer) → Within 1 247 a → IsAnswer x → rtu_heard (rtu_of a (unit_of i x)) ≡ heard (reply_to a x) (words_told x)
 answer_back i a x h k = made a (unit_of i x) (unit_some i x) (omega (arith, unit_short i x)) ∙ answer_heard i a x h k
 
-pub reply_back : (r : Reply) (ws : List ℕ) → IsReply r → length ws ≡ registers_of r → rtu_heard (rtu_of (address_of r) (reply_unit r ws)) ≡ heard r ws
+pub reply_back : (r : Option Reply) (ws : List ℕ) → IsReply r → length ws ≡ registers_of r → rtu_heard (rtu_of (address_of r) (reply_unit r ws)) ≡ heard r ws
 reply_back r ws h e = made (address_of r) (reply_unit r ws) (reply_some r ws h) (omega (arith, reply_most r ws h e)) ∙ reply_heard r ws h e
 
 -- ---- "Else 14, and only then"

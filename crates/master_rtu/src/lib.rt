@@ -8,8 +8,8 @@ ghost use Rattle.master.specs.Sent.{sent_of, bytes_sent};
 ghost use Rattle.master_request.specs.Ask.{sayable, request_unit};
 ghost use Rattle.master_rtu.specs.Heard.{rtu_heard};
 
-use master::{Sent, send};
-use master_reply::{Heard, Reply, read_unit};
+use master::{Sent, Unsent, send};
+use master_reply::{Heard, read_unit};
 use master_request::{Ask, body_of};
 
 // Puts the frame of what is asked at the start of `out`: 13 where it cannot be said, then 10 where it does not fit. `registers` are the register bytes of
@@ -21,7 +21,7 @@ pub fn write_request(address: u8, ask: Ask, registers: &[u8], out: &mut [u8]) ->
     let body = body_of(address, ask, registers);
     let end = body.size;
     if end == 0 {
-        return Sent::CannotBeSaid;
+        return Err(Unsent::CannotBeSaid);
     }
     let mut frame = body.bytes;
     let crc = checks::crc(&frame[0..end]);
@@ -38,7 +38,7 @@ pub fn read_reply(frame: &[u8]) -> Heard
     if !rtu::frame_holds(frame) {
         return Heard {
             words: [0u16; 125],
-            reply: Reply::NotAReply,
+            reply: None,
         };
     }
     read_unit(rtu::address_in(frame), rtu::unit_in(frame))

@@ -1,14 +1,13 @@
 -- Worked data units of functions 43 and 17: what requests ask, and replies by hand from the standard's layout. Assumes nothing.
-use Rattle.std.specs.Prelude.{◌≡◌, refl, List, [], ◌∷◌, map, ℕ}
+use Rattle.std.specs.Prelude.{◌≡◌, refl, List, [], ◌∷◌, map, ℕ, Option, Some, None}
 use Rattle.identity.specs.Identity as Identities
-use Rattle.identity.specs.declared.Named.{Named}
-use Rattle.identity.specs.declared.Named.TheVariants as Names
 use Rattle.identity.specs.declared.Part.TheVariants as Parts
 use Rattle.modbus.specs.Request.{identifying, numbering, asked, asked_of, request_of}
 use Rattle.modbus.specs.Answer.{short_of, unit_of}
 use Rattle.modbus.specs.declared.requests.Request.{Request}
 use Rattle.modbus.specs.declared.requests.Request.TheVariants.{Identify, Serial, Malformed, Unknown}
 use Rattle.modbus.specs.declared.replies.Answer.TheVariants.{Identity}
+use Rattle.identity.specs.declared.Part.{Part}
 
 -- a unit, and what it asks
 abbrev pub requests : List (List ℕ × Request)
@@ -43,9 +42,9 @@ ours =
     ∷ []
 
 -- what a code and an object bring of it
-abbrev told : Named → List ℕ
-told (Names.Part part) = unit_of ours (Identity part)
-told Names.NoObject = []
+abbrev told : Option Part → List ℕ
+told (Some part) = unit_of ours (Identity part)
+told None = []
 
 -- 2B 0E, the code, 82 00 00, how many; for each object its number, its length, its bytes
 abbrev pub replies : List (List ℕ × List ℕ)

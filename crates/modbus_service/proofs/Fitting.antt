@@ -1,4 +1,5 @@
 -- What a unit's answer can be: only a read tells, only a write is written, only 43 and 17 are told the identity, and a reply comes from our own address. Assumes nothing.
+use Rattle.std.proofs.Common.{Option, Some, None, Result, Ok, Err}
 use mathlib.Core.Path.{◌≡◌, sym, subst, ◌∙◌}
 use mathlib.Core.Logic.{◌⊎◌, inl, inr}
 use mathlib.Core.Bool.{Bool, true, false, not, true≢false}
@@ -17,8 +18,6 @@ use Rattle.port.specs.Port.{Numbers}
 use Rattle.drive.specs.Plant.{Plant, station}
 use Rattle.answers.specs.declared.Answer.{Answer}
 use Rattle.answers.specs.declared.Answer.TheVariants as Answers
-use Rattle.permit.specs.declared.Permit.{Permit}
-use Rattle.permit.specs.declared.Permit.TheVariants as Permits
 use Rattle.service.specs.Write.{written}
 use Rattle.service.specs.Serving.{is_none, the_row, permitted, told_served, wrote_served}
 use Rattle.modbus_words.specs.Words.{word_at, long_at}
@@ -30,10 +29,10 @@ use Rattle.modbus.specs.declared.replies.Answer as Units
 use Rattle.modbus.proofs.Laws.{request_all}
 use Rattle.modbus_service.specs.Serve.{to_all, reaches_us, asks_read, no_object, task_of, done, served}
 use Rattle.modbus_service.specs.Reply.{head_of, answered, replied_by, replied, exchanged}
-use Rattle.modbus_service.specs.declared.Reply.{Reply}
-use Rattle.modbus_service.specs.declared.Reply.TheVariants.{Nothing, Data}
 use Rattle.modbus_service.specs.declared.Task.{Task}
 use Rattle.modbus_service.specs.declared.Task.TheVariants.{Say}
+use Rattle.answers.specs.declared.Change.{Change}
+use Rattle.answers.specs.declared.Refusal.{Refusal}
 
 -- ---- a request has the numbers of its function
 abbrev pub Made : Request → Type 0
@@ -94,13 +93,13 @@ Fits request Answers.NotOurs = Unit {0}
 Fits request (Answers.Refused refusal) = Unit {0}
 
 -- what a write comes to
-one_fits : (r : Register) (w : ℕ) (x : Permit) → Fits (One r w) (permitted x)
-one_fits r w (Permits.Write change) = tt
-one_fits r w (Permits.Refused refusal) = tt
+one_fits : (r : Register) (w : ℕ) (x : Result Change Refusal) → Fits (One r w) (permitted x)
+one_fits r w (Ok change) = tt
+one_fits r w (Err refusal) = tt
 
-many_fits : (r : Register) (n : ℕ) (s : Span) (x : Permit) → Fits (Many r n s) (permitted x)
-many_fits r n s (Permits.Write change) = tt
-many_fits r n s (Permits.Refused refusal) = tt
+many_fits : (r : Register) (n : ℕ) (s : Span) (x : Result Change Refusal) → Fits (Many r n s) (permitted x)
+many_fits r n s (Ok change) = tt
+many_fits r n s (Err refusal) = tt
 
 module _ (p : Plant) (q : Numbers) (a : ℕ) (u : List ℕ) where
   abbrev Does : Request → Task → Type 0
@@ -130,13 +129,13 @@ module _ (p : Plant) (q : Numbers) (a : ℕ) (u : List ℕ) where
   served_fits = fits (request_of u)
 
   -- and it comes from our own address
-  abbrev FromUs : Reply → Type 0
-  FromUs Nothing = Unit {0}
-  FromUs (Data x) = a ≡ station p
+  abbrev FromUs : Option Units.Answer → Type 0
+  FromUs None = Unit {0}
+  FromUs (Some x) = a ≡ station p
 
-  any_from : a ≡ station p → (r : Reply) → FromUs r
-  any_from e Nothing = tt
-  any_from e (Data x) = e
+  any_from : a ≡ station p → (r : Option Units.Answer) → FromUs r
+  any_from e None = tt
+  any_from e (Some x) = e
 
   ours : to_all a ≡ false → not (reaches_us (station p) a) ≡ false → a ≡ station p
   unfolding reaches_us
@@ -160,5 +159,5 @@ module _ (p : Plant) (q : Numbers) (a : ℕ) (u : List ℕ) where
   unfolding exchanged replied replied_by served task_of
   reply_from = pick_both FromUs (to_all a) (λ _. tt) (λ n. pick_from (not (reaches_us (station p) a)) _ _ refused_from (λ r. ours n r))
 
-  pub from_us : (x : Units.Answer) → (exchanged p q a u).reply ≡ Data x → a ≡ station p
+  pub from_us : (x : Units.Answer) → (exchanged p q a u).reply ≡ Some x → a ≡ station p
   from_us x e = subst FromUs e reply_from

@@ -1,4 +1,5 @@
 -- Serving a data unit, case by case: what the tests and the callees told, and the case of the definition. Assumes nothing.
+use Rattle.std.proofs.Common.{Option, Some, None}
 use mathlib.Core.Path.{◌≡◌, refl, sym, ap, ◌∙◌}
 use mathlib.Core.Bool.{Bool, true, false, not}
 use mathlib.Core.List.{List}
@@ -11,13 +12,9 @@ use Rattle.table.specs.Table.{line_at}
 use Rattle.table.specs.Find.{row_of_span}
 use Rattle.table.specs.declared.labels.Row.{Row}
 use Rattle.table.specs.declared.labels.Register.{Register}
-use Rattle.table.specs.declared.labels.Found.{Found}
-use Rattle.table.specs.declared.labels.Found.TheVariants.{At, NoRow}
 use Rattle.identity.specs.Identity.{objects_asked}
 use Rattle.identity.specs.declared.Part.{Part}
 use Rattle.identity.specs.declared.Part.TheVariants as Parts
-use Rattle.identity.specs.declared.Named.{Named}
-use Rattle.identity.specs.declared.Named.TheVariants as Names
 use Rattle.port.specs.Port.{Numbers}
 use Rattle.drive.specs.Plant.{Plant, station}
 use Rattle.answers.specs.declared.Answer.{Answer}
@@ -42,29 +39,27 @@ use Rattle.modbus_service.specs.Reply.{Exchanged, head_of, exception_of, registe
 use Rattle.modbus_service.specs.declared.Task.{Task}
 use Rattle.modbus_service.specs.declared.Task.TheVariants.{Tell, Write, Say}
 use Rattle.modbus_service.specs.declared.Head.{Head}
-use Rattle.modbus_service.specs.declared.Reply.{Reply}
-use Rattle.modbus_service.specs.declared.Reply.TheVariants.{Nothing, Data}
 
 -- ---- a part of the identity: the lines that may refuse it, and what is said of it
-module _ (a : ℕ) (n : Named) where
+module _ (a : ℕ) (n : Option Part) where
   pub part_all : a ≡ 0 → Say Answers.NotOurs ≡ part_task a n
   unfolding part_task
   part_all z = simp (eq-eqb a 0 z)
 
-  pub part_none : (a ≡ 0 → ⊥) → n ≡ Names.NoObject → Say (Answers.Refused Refusals.NoRow) ≡ part_task a n
+  pub part_none : (a ≡ 0 → ⊥) → n ≡ None → Say (Answers.Refused Refusals.NoRow) ≡ part_task a n
   unfolding part_task
   part_none z e = simp (ne_eqb a 0 z, e)
 
-  pub part_some : (part : Part) → (a ≡ 0 → ⊥) → n ≡ Names.Part part → Say (Answers.Identified part) ≡ part_task a n
+  pub part_some : (part : Part) → (a ≡ 0 → ⊥) → n ≡ Some part → Say (Answers.Identified part) ≡ part_task a n
   unfolding part_task
   part_some part z e = simp (ne_eqb a 0 z, e)
 
-part_lines : (t : Bool) (n : Named)
+part_lines : (t : Bool) (n : Option Part)
     → pick t (Say Answers.NotOurs) (part_said n)
     ≡ pick (both t true) (Say Answers.NotOurs) (pick (both (no_object n) true) (Say (Answers.Refused Refusals.NoRow)) (Say (Answers.Identified (the_part n))))
 part_lines true n = refl
-part_lines false (Names.Part part) = refl
-part_lines false Names.NoObject = refl
+part_lines false (Some part) = refl
+part_lines false None = refl
 
 -- ---- what a request asks of the plant
 module _ (st a : ℕ) (q : Request) (u : List ℕ) (t : Bool) (reaches : t ≡ reaches_us st a) where
@@ -85,40 +80,40 @@ module _ (st a : ℕ) (q : Request) (u : List ℕ) (t : Bool) (reaches : t ≡ r
     unfolding task_of
     task_read_all f n r e z = simp (to_us, e, eq-eqb a 0 z)
 
-    pub task_read_none : (f n : ℕ) (r : Register) (g : Found) → q ≡ Read f r n → (a ≡ 0 → ⊥) → g ≡ row_of_span r.0 n → g ≡ NoRow → Say (Answers.Refused Refusals.NoRow) ≡ task_of st a q u
+    pub task_read_none : (f n : ℕ) (r : Register) (g : Option Row) → q ≡ Read f r n → (a ≡ 0 → ⊥) → g ≡ row_of_span r.0 n → g ≡ None → Say (Answers.Refused Refusals.NoRow) ≡ task_of st a q u
     unfolding task_of
     task_read_none f n r g e z d h = simp (to_us, e, ne_eqb a 0 z, sym d ∙ h)
 
-    pub task_read : (f n : ℕ) (r : Register) (g : Found) (row : Row) → q ≡ Read f r n → (a ≡ 0 → ⊥) → g ≡ row_of_span r.0 n → g ≡ At row → Tell row ≡ task_of st a q u
+    pub task_read : (f n : ℕ) (r : Register) (g : Option Row) (row : Row) → q ≡ Read f r n → (a ≡ 0 → ⊥) → g ≡ row_of_span r.0 n → g ≡ Some row → Tell row ≡ task_of st a q u
     unfolding task_of
     task_read f n r g row e z d h = simp (to_us, e, ne_eqb a 0 z, sym d ∙ h)
 
     -- 06
-    pub task_one_none : (r : Register) (w : ℕ) (g : Found) → q ≡ One r w → g ≡ row_of_span r.0 1 → g ≡ NoRow → Say (Answers.Refused Refusals.NoRow) ≡ task_of st a q u
+    pub task_one_none : (r : Register) (w : ℕ) (g : Option Row) → q ≡ One r w → g ≡ row_of_span r.0 1 → g ≡ None → Say (Answers.Refused Refusals.NoRow) ≡ task_of st a q u
     unfolding task_of
     task_one_none r w g e d h = simp (to_us, e, both_false (to_all a), sym d ∙ h)
 
-    pub task_one : (r : Register) (w : ℕ) (g : Found) (row : Row) → q ≡ One r w → g ≡ row_of_span r.0 1 → g ≡ At row → Write row w ≡ task_of st a q u
+    pub task_one : (r : Register) (w : ℕ) (g : Option Row) (row : Row) → q ≡ One r w → g ≡ row_of_span r.0 1 → g ≡ Some row → Write row w ≡ task_of st a q u
     unfolding task_of
     task_one r w g row e d h = simp (to_us, e, both_false (to_all a), sym d ∙ h)
 
     -- 16
-    pub task_many_none : (r : Register) (n : ℕ) (place : Span) (g : Found) → q ≡ Many r n place → g ≡ row_of_span r.0 n → g ≡ NoRow → Say (Answers.Refused Refusals.NoRow) ≡ task_of st a q u
+    pub task_many_none : (r : Register) (n : ℕ) (place : Span) (g : Option Row) → q ≡ Many r n place → g ≡ row_of_span r.0 n → g ≡ None → Say (Answers.Refused Refusals.NoRow) ≡ task_of st a q u
     unfolding task_of
     task_many_none r n place g e d h = simp (to_us, e, both_false (to_all a), sym d ∙ h)
 
-    pub task_many : (r : Register) (n v : ℕ) (place : Span) (g : Found) (row : Row) → q ≡ Many r n place → g ≡ row_of_span r.0 n → g ≡ At row → v ≡ long_at u place.from → Write row v ≡ task_of st a q u
+    pub task_many : (r : Register) (n v : ℕ) (place : Span) (g : Option Row) (row : Row) → q ≡ Many r n place → g ≡ row_of_span r.0 n → g ≡ Some row → v ≡ long_at u place.from → Write row v ≡ task_of st a q u
     unfolding task_of
     task_many r n v place g row e d h k = simp (to_us, e, both_false (to_all a), sym d ∙ h, k)
 
     -- 43 and 17
-    pub task_identify : (code object : ℕ) (n : Named) (r : Task) → q ≡ Identify code object → n ≡ objects_asked code object → r ≡ part_task a n → r ≡ task_of st a q u
+    pub task_identify : (code object : ℕ) (n : Option Part) (r : Task) → q ≡ Identify code object → n ≡ objects_asked code object → r ≡ part_task a n → r ≡ task_of st a q u
     unfolding task_of part_task
     task_identify code object n r e d h = simp (to_us, e) (h ∙ ap (part_task a) d ∙ part_lines (to_all a) (objects_asked code object))
 
-    pub task_serial : (r : Task) → q ≡ Serial → r ≡ part_task a (Names.Part Parts.Serial) → r ≡ task_of st a q u
+    pub task_serial : (r : Task) → q ≡ Serial → r ≡ part_task a (Some Parts.Serial) → r ≡ task_of st a q u
     unfolding task_of part_task
-    task_serial r e h = simp (to_us, e) (h ∙ part_lines (to_all a) (Names.Part Parts.Serial))
+    task_serial r e h = simp (to_us, e) (h ∙ part_lines (to_all a) (Some Parts.Serial))
 
     -- a bad length, count or identification code
     pub task_malformed_all : (f : ℕ) (b : Bool) → q ≡ Malformed f → b ≡ both (to_all a) (reading f) → b ≡ true → Say Answers.NotOurs ≡ task_of st a q u
@@ -166,28 +161,28 @@ told_word f row w n d h = simp (ne_eqb (line_at row.0).registers 2 (λ e. h (d �
 
 -- ---- the reply to one that is not broadcast
 module _ (a : ℕ) (h : Head) (x : Answer) (one : a ≡ 0 → ⊥) where
-  pub replied_told : (row : Row) (w : ℕ) (y : Units.Answer) → x ≡ Answers.Told row w → y ≡ registers_told h.function row w → Data y ≡ replied_by a h x
+  pub replied_told : (row : Row) (w : ℕ) (y : Units.Answer) → x ≡ Answers.Told row w → y ≡ registers_told h.function row w → Some y ≡ replied_by a h x
   unfolding replied_by
   replied_told row w y k e = simp (ne_eqb a 0 one, k, e)
 
-  pub replied_written : (change : Change) → x ≡ Answers.Written change → Data (Echo h.function h.register h.number) ≡ replied_by a h x
+  pub replied_written : (change : Change) → x ≡ Answers.Written change → Some (Echo h.function h.register h.number) ≡ replied_by a h x
   unfolding replied_by
   replied_written change k = simp (ne_eqb a 0 one, k)
 
-  pub replied_part : (part : Part) → x ≡ Answers.Identified part → Data (Identity part) ≡ replied_by a h x
+  pub replied_part : (part : Part) → x ≡ Answers.Identified part → Some (Identity part) ≡ replied_by a h x
   unfolding replied_by
   replied_part part k = simp (ne_eqb a 0 one, k)
 
-  pub replied_none : x ≡ Answers.NotOurs → Nothing ≡ replied_by a h x
+  pub replied_none : x ≡ Answers.NotOurs → None ≡ replied_by a h x
   unfolding replied_by
   replied_none k = simp (ne_eqb a 0 one, k)
 
-  pub replied_refused : (refusal : Refusal) (n : ℕ) → x ≡ Answers.Refused refusal → n ≡ exception_of refusal → Data (Exception h.function n) ≡ replied_by a h x
+  pub replied_refused : (refusal : Refusal) (n : ℕ) → x ≡ Answers.Refused refusal → n ≡ exception_of refusal → Some (Exception h.function n) ≡ replied_by a h x
   unfolding replied_by
   replied_refused refusal n k e = simp (ne_eqb a 0 one, k, e)
 
 -- ---- a unit and its reply
-pub exchange_is : (p x : Plant) (q y : Numbers) (a : ℕ) (unit : List ℕ) (request : Request) (t : Task) (z : Answer) (h : Head) (r : Reply)
+pub exchange_is : (p x : Plant) (q y : Numbers) (a : ℕ) (unit : List ℕ) (request : Request) (t : Task) (z : Answer) (h : Head) (r : Option Units.Answer)
     → request ≡ request_of unit → t ≡ task_of (station p) a request unit → keeping x y z ≡ done p q t → h ≡ head_of request → r ≡ replied_by a h z
     → ◌≡◌ {A = Exchanged} (record { served = keeping x y z; reply = r }) (exchanged p q a unit)
 unfolding exchanged served replied

@@ -1,4 +1,5 @@
 -- What a caller learns of a unit's bytes: a reply's numbers are in their widths, so that its unit is bytes again; and what a 16 writes. Assumes nothing.
+use Rattle.std.proofs.Common.{Option, Some, None, Result, Ok, Err}
 use mathlib.Core.Path.{◌≡◌, refl, ap, subst, ◌∙◌}
 use mathlib.Core.Bool.{not}
 use mathlib.Core.List.{List, [], ◌∷◌}
@@ -16,15 +17,12 @@ use Rattle.table.specs.declared.labels.Register.{Register}
 use Rattle.identity.specs.Identity.{up_to, objects_asked}
 use Rattle.identity.specs.declared.Part.{Part}
 use Rattle.identity.specs.declared.Part.TheVariants.{Objects}
-use Rattle.identity.specs.declared.Named.{Named}
 use Rattle.port.specs.Port.{Numbers}
 use Rattle.drive.specs.Plant.{Plant, station}
 use Rattle.answers.specs.declared.Answer.{Answer}
 use Rattle.answers.specs.declared.Answer.TheVariants.{Told, Written, Identified, NotOurs, Refused}
 use Rattle.answers.specs.declared.Refusal.{Refusal}
 use Rattle.answers.specs.declared.Refusal.TheVariants as Refusals
-use Rattle.permit.specs.declared.Permit.{Permit}
-use Rattle.permit.specs.declared.Permit.TheVariants as Permits
 use Rattle.service.specs.Write.{written}
 use Rattle.service.specs.Serving.{the_row, permitted, told_served, wrote_served}
 use Rattle.modbus_words.specs.Words.{word_at, long_at}
@@ -40,8 +38,8 @@ use Rattle.modbus_service.specs.Serve.{to_all, reaches_us, asks_read, is_unknown
 use Rattle.modbus_service.specs.Reply.{head, head_of, exception_of, registers_told, answered, replied_by, replied}
 use Rattle.modbus_service.specs.declared.Task.{Task}
 use Rattle.modbus_service.specs.declared.Head.{Head}
-use Rattle.modbus_service.specs.declared.Reply.{Reply}
-use Rattle.modbus_service.specs.declared.Reply.TheVariants.{Nothing, Data}
+use Rattle.answers.specs.declared.Change.{Change}
+use Rattle.modbus.specs.declared.replies.Answer as Units
 
 -- ---- the head of a request, of a unit of bytes
 byte_below : (u : List ℕ) (i : ℕ) → Bytes u → get_or u i 0 < 256
@@ -80,9 +78,9 @@ head_in u b =
     (asked_in (length u) (get_or u 0 0) (word_at u 1) (word_at u 3) (get_or u 5 0) (byte_below u 0 b) (word_below u 1 b) (word_below u 3 b))
 
 -- ---- its reply
-abbrev pub ReplyIn : Reply → Type 0
-ReplyIn Nothing = Unit {0}
-ReplyIn (Data answer) = InWidth answer
+abbrev pub ReplyIn : Option Units.Answer → Type 0
+ReplyIn None = Unit {0}
+ReplyIn (Some answer) = InWidth answer
 
 exception_below : (x : Refusal) → exception_of x < 256
 exception_below Refusals.NoRow = omega arith
@@ -134,7 +132,7 @@ code_in u b =
     request_all CodeIn u (byte_below u 2 b) tt tt tt tt
     (asked_all CodeIn (length u) (get_or u 0 0) (word_at u 1) (word_at u 3) (get_or u 5 0) tt tt tt (λ _. tt) tt)
 
-abbrev PartIn : Named → Type 0
+abbrev PartIn : Option Part → Type 0
 PartIn named = AnswerIn (Identified (the_part named))
 
 part_in : (code object : ℕ) → code < 256 → PartIn (objects_asked code object)
@@ -146,9 +144,9 @@ part_in code object h =
     up_to_lem : (last : ℕ) → AnswerIn (Identified (pick (ltb last object) (Objects code 0 last) (Objects code object last)))
     up_to_lem last = pick_both (λ (part : Part). AnswerIn (Identified part)) (ltb last object) (λ _. h) (λ _. h)
 
-permitted_in : (permit : Permit) → AnswerIn (permitted permit)
-permitted_in (Permits.Write change) = tt
-permitted_in (Permits.Refused refusal) = tt
+permitted_in : (permit : Result Change Refusal) → AnswerIn (permitted permit)
+permitted_in (Ok change) = tt
+permitted_in (Err refusal) = tt
 
 module _ (p : Plant) (q : Numbers) (a : ℕ) (u : List ℕ) where
   abbrev TaskIn : Task → Type 0

@@ -1,5 +1,5 @@
 -- What is replied to a data unit: the column "Modbus exception", a normal answer, or nothing. Assumes nothing.
-use Rattle.std.specs.Prelude.{List, [], ℕ, ◌%◌, eqb}
+use Rattle.std.specs.Prelude.{List, [], ℕ, ◌%◌, eqb, Option, Some, None}
 use Rattle.base.specs.Choice.{pick}
 use Rattle.table.specs.Table.{line_at}
 use Rattle.table.specs.declared.labels.Row.{Row}
@@ -20,8 +20,6 @@ use Rattle.modbus.specs.declared.replies.Answer as Units
 use Rattle.modbus.specs.declared.replies.Answer.TheVariants.{Word, Long, Echo, Identity, Exception}
 use Rattle.modbus_service.specs.Serve.{to_all, served}
 use Rattle.modbus_service.specs.declared.Head.{Head}
-use Rattle.modbus_service.specs.declared.Reply.{Reply}
-use Rattle.modbus_service.specs.declared.Reply.TheVariants.{Nothing, Data}
 use Rattle.modbus_service.specs.declared.Exchange.{Exchange}
 
 -- the column "Modbus exception", 2 to 9
@@ -53,24 +51,24 @@ head_of (Malformed function) = head function (label 0) 0
 head_of (Unknown function) = head function (label 0) 0
 
 -- "0: done .. normal": 06 and 16 are answered by their register, and their word or count (MB), 43 and 17 by the part of the identity; "1: .. none"; 2 to 9 by an exception
-abbrev pub answered : Head → Answer → Reply
-answered h (Told row word) = Data (registers_told h.function row word)
-answered h (Written change) = Data (Echo h.function h.register h.number)
-answered h (Identified part) = Data (Identity part)
-answered h NotOurs = Nothing
-answered h (Refused refusal) = Data (Exception h.function (exception_of refusal))
+abbrev pub answered : Head → Answer → Option Units.Answer
+answered h (Told row word) = Some (registers_told h.function row word)
+answered h (Written change) = Some (Echo h.function h.register h.number)
+answered h (Identified part) = Some (Identity part)
+answered h NotOurs = None
+answered h (Refused refusal) = Some (Exception h.function (exception_of refusal))
 
 -- "0 is broadcast: 06 and 16 act without reply"; "A refused broadcast gets no reply"
-unfoldable pub replied_by : (address : ℕ) → Head → Answer → Reply
-replied_by address h answer = pick (to_all address) Nothing (answered h answer)
+unfoldable pub replied_by : (address : ℕ) → Head → Answer → Option Units.Answer
+replied_by address h answer = pick (to_all address) None (answered h answer)
 
-unfoldable pub replied : (address : ℕ) → List ℕ → Answer → Reply
+unfoldable pub replied : (address : ℕ) → List ℕ → Answer → Option Units.Answer
 replied address unit answer = replied_by address (head_of (request_of unit)) answer
 
 -- what a unit comes to, and its reply
 pub record Exchanged : Type 0 where
   pub served : Served
-  pub reply : Reply
+  pub reply : Option Units.Answer
 
 -- what the code hands back, with the plant and the port that it was lent
 abbrev pub exchanged_in : Plant → Numbers → Exchange → Exchanged
@@ -80,6 +78,6 @@ unfoldable pub exchanged : Plant → Numbers → (address : ℕ) → List ℕ �
 exchanged p q address unit = record { served = served p q address unit; reply = replied address unit (served p q address unit).answer }
 
 -- the reply's message, as its line makes messages of an address and a data unit, from the card whose identity this is; none where nothing is replied
-abbrev pub sent_by : (ℕ → List ℕ → List ℕ) → Identities.Identity → ℕ → Reply → List ℕ
-sent_by made i address Nothing = []
-sent_by made i address (Data answer) = made address (unit_of i answer)
+abbrev pub sent_by : (ℕ → List ℕ → List ℕ) → Identities.Identity → ℕ → Option Units.Answer → List ℕ
+sent_by made i address None = []
+sent_by made i address (Some answer) = made address (unit_of i answer)

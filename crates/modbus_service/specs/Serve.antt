@@ -1,16 +1,12 @@
 -- A data unit of Modbus, served: "Order: .. Modbus 11, 1 by address, 9, 1 for a broadcast read, 8, 2, 3, 4, 5, 6, 7". 11 is the RTU frame's. Assumes nothing.
-use Rattle.std.specs.Prelude.{◌≡◌, refl, Bool, true, false, not, List, [], ◌∷◌, ◌++◌, ℕ, eqb}
+use Rattle.std.specs.Prelude.{◌≡◌, refl, Bool, true, false, not, List, [], ◌∷◌, ◌++◌, ℕ, eqb, Option, Some, None}
 use Rattle.base.specs.Choice.{pick, both, either}
 use Rattle.base.specs.Order.{Line, when, first_of, saying, numbers}
 use Rattle.table.specs.Find.{row_of_span}
 use Rattle.table.specs.declared.labels.Row.{Row}
-use Rattle.table.specs.declared.labels.Found.{Found}
-use Rattle.table.specs.declared.labels.Found.TheVariants.{NoRow}
 use Rattle.identity.specs.Identity.{objects_asked}
 use Rattle.identity.specs.declared.Part.{Part}
 use Rattle.identity.specs.declared.Part.TheVariants as Parts
-use Rattle.identity.specs.declared.Named.{Named}
-use Rattle.identity.specs.declared.Named.TheVariants as Names
 use Rattle.port.specs.Port.{Numbers}
 use Rattle.drive.specs.Plant.{Plant, station}
 use Rattle.answers.specs.declared.Answer.{Answer}
@@ -69,33 +65,33 @@ is_malformed (Malformed function) = true
 is_malformed (Unknown function) = false
 
 -- "A row's registers are read or written all in one message and only its own: start at its first, count its width"; a 06 writes one register
-abbrev pub row_asked : Request → Found
+abbrev pub row_asked : Request → Option Row
 row_asked (Read function first count) = row_of_span first.0 count
 row_asked (One register word) = row_of_span register.0 1
 row_asked (Many first count place) = row_of_span first.0 count
-row_asked (Identify code object) = NoRow
-row_asked Serial = NoRow
-row_asked (Malformed function) = NoRow
-row_asked (Unknown function) = NoRow
+row_asked (Identify code object) = None
+row_asked Serial = None
+row_asked (Malformed function) = None
+row_asked (Unknown function) = None
 
 -- 43 asks for objects, 17 for the serial number, and no other for a part of the identity
-abbrev pub part_asked : Request → Named
-part_asked (Read function first count) = Names.NoObject
-part_asked (One register word) = Names.NoObject
-part_asked (Many first count place) = Names.NoObject
+abbrev pub part_asked : Request → Option Part
+part_asked (Read function first count) = None
+part_asked (One register word) = None
+part_asked (Many first count place) = None
 part_asked (Identify code object) = objects_asked code object
-part_asked Serial = Names.Part Parts.Serial
-part_asked (Malformed function) = Names.NoObject
-part_asked (Unknown function) = Names.NoObject
+part_asked Serial = Some Parts.Serial
+part_asked (Malformed function) = None
+part_asked (Unknown function) = None
 
-abbrev pub no_object : Named → Bool
-no_object (Names.Part part) = false
-no_object Names.NoObject = true
+abbrev pub no_object : Option Part → Bool
+no_object (Some part) = false
+no_object None = true
 
 -- where there is none, a message is refused; this only fills the place
-abbrev pub the_part : Named → Part
-the_part (Names.Part part) = part
-the_part Names.NoObject = Parts.Serial
+abbrev pub the_part : Option Part → Part
+the_part (Some part) = part
+the_part None = Parts.Serial
 
 -- it asks for a row or for a part of the identity, and there is none
 abbrev pub asks_nothing : Request → Bool
@@ -133,11 +129,11 @@ task_at row (Malformed function) unit = Tell row
 task_at row (Unknown function) unit = Tell row
 
 -- what is said of a part of the identity, to one master and not to all
-abbrev pub part_said : Named → Task
-part_said (Names.Part part) = Say (Answers.Identified part)
-part_said Names.NoObject = Say (Answers.Refused Refusals.NoRow)
+abbrev pub part_said : Option Part → Task
+part_said (Some part) = Say (Answers.Identified part)
+part_said None = Say (Answers.Refused Refusals.NoRow)
 
-unfoldable pub part_task : (address : ℕ) → Named → Task
+unfoldable pub part_task : (address : ℕ) → Option Part → Task
 part_task address named = pick (to_all address) (Say Answers.NotOurs) (part_said named)
 
 -- the first of the lines that applies; where none does, this

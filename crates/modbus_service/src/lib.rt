@@ -10,10 +10,10 @@ ghost use Rattle.modbus_service.specs.Reply.{head_of, exception_of, registers_to
 
 use answers::{Answer, Refusal};
 use drive::{Plant, STATION};
-use identity::{Named, Part};
+use identity::Part;
 use modbus::Request;
 use port::Numbers;
-use table::{Found, Register, Row};
+use table::{Register, Row};
 
 // What a unit asks of the plant: a row is to tell its word, or to hold a value; or nothing, and this is to be said.
 #[derive(Clone, Copy)]
@@ -31,18 +31,11 @@ struct Head {
     number: u16,
 }
 
-// What is replied: nothing, or a data unit with this answer.
-#[derive(Clone, Copy)]
-pub enum Reply {
-    Nothing,
-    Data(modbus::Answer),
-}
-
-// What a unit came to, and its reply.
+// What a unit came to, and the data unit that is replied, if any.
 #[derive(Clone, Copy)]
 pub struct Exchange {
     pub answer: Answer,
-    pub reply: Reply,
+    pub reply: Option<modbus::Answer>,
 }
 
 // Serves a data unit that came behind an address: 03 and 04 tell a row, 06 and 16 write one, 43 and 17 tell the identity. A refusal changes nothing.
@@ -78,19 +71,19 @@ fn task_of(station: u32, address: u8, request: Request, unit: &[u8]) -> Task
             if address == 0 {
                 return Task::Say(Answer::NotOurs);
             }
-            let Found::At(row) = first.span(count) else {
+            let Some(row) = first.span(count) else {
                 return Task::Say(Answer::Refused(Refusal::NoRow));
             };
             Task::Tell(row)
         }
         Request::One(register, word) => {
-            let Found::At(row) = register.span(1) else {
+            let Some(row) = register.span(1) else {
                 return Task::Say(Answer::Refused(Refusal::NoRow));
             };
             Task::Write(row, word as u32)
         }
         Request::Many(first, count, place) => {
-            let Found::At(row) = first.span(count) else {
+            let Some(row) = first.span(count) else {
                 return Task::Say(Answer::Refused(Refusal::NoRow));
             };
             Task::Write(row, modbus_words::long_at(unit, place.from))
@@ -99,7 +92,7 @@ fn task_of(station: u32, address: u8, request: Request, unit: &[u8]) -> Task
             address,
             identity::objects_asked(code, object),
         ),
-        Request::Serial => part_task(address, Named::Part(Part::Serial)),
+        Request::Serial => part_task(address, Some(Part::Serial)),
         Request::Malformed(function) => {
             if broadcast_read(address, function) {
                 return Task::Say(Answer::NotOurs);
@@ -111,13 +104,13 @@ fn task_of(station: u32, address: u8, request: Request, unit: &[u8]) -> Task
 }
 
 // A part of the identity is said to one master, and not to all. An object that there is not is refusal 2.
-fn part_task(address: u8, named: Named) -> Task
+fn part_task(address: u8, named: Option<Part>) -> Task
     ensures { result ≡ part_task address named }
 {
     if address == 0 {
         return Task::Say(Answer::NotOurs);
     }
-    let Named::Part(part) = named else {
+    let Some(part) = named else {
         return Task::Say(Answer::Refused(Refusal::NoRow));
     };
     Task::Say(Answer::Identified(part))
@@ -204,21 +197,21 @@ fn head_of(request: Request) -> Head
 }
 
 // What is replied behind an address, by the head of the request and what it came to.
-fn reply_to(address: u8, head: Head, answer: Answer) -> Reply
+fn reply_to(address: u8, head: Head, answer: Answer) -> Option<modbus::Answer>
     ensures { result ≡ replied_by address head answer }
 {
     if address == 0 {
-        return Reply::Nothing;
+        return None;
     }
     match answer {
-        Answer::Told(row, word) => Reply::Data(registers(head.function, row, word)),
+        Answer::Told(row, word) => Some(registers(head.function, row, word)),
         Answer::Written(_) => {
             let register = head.register;
-            Reply::Data(modbus::Answer::Echo(head.function, register, head.number))
+            Some(modbus::Answer::Echo(head.function, register, head.number))
         }
-        Answer::Identified(part) => Reply::Data(modbus::Answer::Identity(part)),
-        Answer::NotOurs => Reply::Nothing,
-        Answer::Refused(refusal) => Reply::Data(modbus::Answer::Exception(
+        Answer::Identified(part) => Some(modbus::Answer::Identity(part)),
+        Answer::NotOurs => None,
+        Answer::Refused(refusal) => Some(modbus::Answer::Exception(
             head.function,
             exception_of(refusal),
         )),

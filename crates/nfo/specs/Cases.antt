@@ -1,11 +1,9 @@
 -- Document 01's cases, as far as they are NFO serial alone: streams and what their reading yields, messages and their parts. Assumes nothing.
-use Rattle.std.specs.Prelude.{List, [], ◌∷◌, ◌++◌, ℕ}
+use Rattle.std.specs.Prelude.{List, [], ◌∷◌, ◌++◌, ℕ, Option, Some, None}
 use Rattle.stream.specs.Reading.{Yield, waiting, taking}
-use Rattle.nfo_parts.specs.declared.message.Value.TheVariants.{Word, NotHex}
-use Rattle.nfo_parts.specs.declared.message.Parameter.{Parameter}
-use Rattle.nfo_parts.specs.declared.message.Parameter.TheVariants.{Number, NoNumber}
 use Rattle.nfo_parts.specs.declared.message.Message.{Message}
 use Rattle.nfo_parts.specs.declared.message.Message.TheVariants.{Enquiry, Select}
+use Rattle.table.specs.declared.labels.ENumber.{ENumber}
 
 -- SELECT Accel, up to its value; then the value's last two digits, 03, and a BCC
 abbrev pub accel : List ℕ → List ℕ
@@ -49,8 +47,8 @@ streams =
     ∷ []
 
 -- ---- messages, and their parts
-abbrev pub E : ℕ → Parameter
-E n = Number (record { 0 = n })
+abbrev pub E : ℕ → Option ENumber
+E n = Some (record { 0 = n })
 
 -- ENQUIRY of a parameter
 abbrev pub enquire : List ℕ → List ℕ
@@ -59,19 +57,19 @@ enquire parameter = 0x04 ∷ 0x21 ∷ parameter ++ (0x05 ∷ [])
 abbrev pub messages : List (List ℕ × Message)
 messages =
     -- case 1: "S2's own SELECT"
-    (0x04 ∷ 0x21 ∷ 0x02 ∷ 0x45 ∷ 0x30 ∷ 0x30 ∷ 0x31 ∷ 0x39 ∷ 0x3D ∷ 0x30 ∷ 0x30 ∷ 0x36 ∷ 0x34 ∷ 0x03 ∷ 0x71 ∷ [], Select 0x21 (E 0x0019) (Word 0x0064))
+    (0x04 ∷ 0x21 ∷ 0x02 ∷ 0x45 ∷ 0x30 ∷ 0x30 ∷ 0x31 ∷ 0x39 ∷ 0x3D ∷ 0x30 ∷ 0x30 ∷ 0x36 ∷ 0x34 ∷ 0x03 ∷ 0x71 ∷ [], Select 0x21 (E 0x0019) (Some 0x0064))
     -- cases 2, 3 and 5
     ∷ (ask, Enquiry 0x21 (E 0x001D))
-    ∷ (accel_0064, Select 0x21 (E 0x001D) (Word 0x0064))
-    ∷ (accel_0093, Select 0x21 (E 0x001D) (Word 0x0093))
+    ∷ (accel_0064, Select 0x21 (E 0x001D) (Some 0x0064))
+    ∷ (accel_0093, Select 0x21 (E 0x001D) (Some 0x0093))
     -- case 4: "R-fix1 B1E0h"
-    ∷ (0x04 ∷ 0x21 ∷ 0x02 ∷ 0x45 ∷ 0x30 ∷ 0x30 ∷ 0x33 ∷ 0x39 ∷ 0x3D ∷ 0x42 ∷ 0x31 ∷ 0x45 ∷ 0x30 ∷ 0x03 ∷ 0x77 ∷ [], Select 0x21 (E 0x0039) (Word 0xB1E0))
+    ∷ (0x04 ∷ 0x21 ∷ 0x02 ∷ 0x45 ∷ 0x30 ∷ 0x30 ∷ 0x33 ∷ 0x39 ∷ 0x3D ∷ 0x42 ∷ 0x31 ∷ 0x45 ∷ 0x30 ∷ 0x03 ∷ 0x77 ∷ [], Select 0x21 (E 0x0039) (Some 0xB1E0))
     -- "Take a-f as well": case 2 as `E001d`, and Accel `00a9`
     ∷ (enquire (0x45 ∷ 0x30 ∷ 0x30 ∷ 0x31 ∷ 0x64 ∷ []), Enquiry 0x21 (E 0x001D))
-    ∷ (accel (0x61 ∷ 0x39 ∷ 0x03 ∷ 0x56 ∷ []), Select 0x21 (E 0x001D) (Word 0x00A9))
+    ∷ (accel (0x61 ∷ 0x39 ∷ 0x03 ∷ 0x56 ∷ []), Select 0x21 (E 0x001D) (Some 0x00A9))
     -- "an unknown parameter or non-hex value is still well-formed": `F001D`, `E001g`, and Accel `00@9`; "The prefix E stays a capital": `e00a9`
-    ∷ (enquire (0x46 ∷ 0x30 ∷ 0x30 ∷ 0x31 ∷ 0x44 ∷ []), Enquiry 0x21 NoNumber)
-    ∷ (enquire (0x45 ∷ 0x30 ∷ 0x30 ∷ 0x31 ∷ 0x67 ∷ []), Enquiry 0x21 NoNumber)
-    ∷ (accel (0x40 ∷ 0x39 ∷ 0x03 ∷ 0x77 ∷ []), Select 0x21 (E 0x001D) NotHex)
-    ∷ (enquire (0x65 ∷ 0x30 ∷ 0x30 ∷ 0x61 ∷ 0x39 ∷ []), Enquiry 0x21 NoNumber)
+    ∷ (enquire (0x46 ∷ 0x30 ∷ 0x30 ∷ 0x31 ∷ 0x44 ∷ []), Enquiry 0x21 None)
+    ∷ (enquire (0x45 ∷ 0x30 ∷ 0x30 ∷ 0x31 ∷ 0x67 ∷ []), Enquiry 0x21 None)
+    ∷ (accel (0x40 ∷ 0x39 ∷ 0x03 ∷ 0x77 ∷ []), Select 0x21 (E 0x001D) None)
+    ∷ (enquire (0x65 ∷ 0x30 ∷ 0x30 ∷ 0x61 ∷ 0x39 ∷ []), Enquiry 0x21 None)
     ∷ []

@@ -5,5 +5,5 @@
 mod message;
 mod replies;
 
-pub use message::{Message, Parameter, Value, read_message};
+pub use message::{Message, read_message};
 pub use replies::{ack, nak, reply};

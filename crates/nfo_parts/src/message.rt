@@ -2,34 +2,19 @@
 ghost use Rattle.std.specs.Prelude.{◌≡◌, ◌+◌, ◌*◌, ◌<◌};
 ghost use Rattle.nfo_parts.specs.Parts.{value_at, parameter_at, message_of};
 
-use hex_pairs::Pair;
 use table::ENumber;
 
-// What a message names: `E` and four hex digits, or something else.
-#[derive(Clone, Copy)]
-pub enum Parameter {
-    Number(ENumber),
-    NoNumber,
-}
-
-// What a SELECT writes: four hex digits, or something else.
-#[derive(Clone, Copy)]
-pub enum Value {
-    Word(u16),
-    NotHex,
-}
-
-// A message, with the byte ADR as it came.
+// A message, with the byte ADR as it came. A parameter that is not `E` and four hex digits names nothing, and a value that is not four hex digits is none.
 #[derive(Clone, Copy)]
 pub enum Message {
     Enquiry {
         adr: u8,
-        parameter: Parameter,
+        parameter: Option<ENumber>,
     },
     Select {
         adr: u8,
-        parameter: Parameter,
-        value: Value,
+        parameter: Option<ENumber>,
+        value: Option<u16>,
     },
 }
 
@@ -55,30 +40,30 @@ pub fn read_message(m: &[u8; 512]) -> Message
     }
 }
 
-fn parameter_at(m: &[u8; 512], at: usize) -> Parameter
+fn parameter_at(m: &[u8; 512], at: usize) -> Option<ENumber>
     requires { at < 500 }
     ensures { result ≡ parameter_at at m.now }
 {
     if m[at] != b'E' {
-        return Parameter::NoNumber;
+        return None;
     }
-    let Value::Word(e) = value_at(m, at + 1) else {
-        return Parameter::NoNumber;
+    let Some(e) = value_at(m, at + 1) else {
+        return None;
     };
-    Parameter::Number(ENumber(e))
+    Some(ENumber(e))
 }
 
-fn value_at(m: &[u8; 512], at: usize) -> Value
+fn value_at(m: &[u8; 512], at: usize) -> Option<u16>
     requires { at < 504 }
     ensures { result ≡ value_at at m.now }
 {
-    let Pair::Byte(high) = hex_pairs::pair_value(m[at], m[at + 1]) else {
-        return Value::NotHex;
+    let Some(high) = hex_pairs::pair_value(m[at], m[at + 1]) else {
+        return None;
     };
-    let Pair::Byte(low) = hex_pairs::pair_value(m[at + 2], m[at + 3]) else {
-        return Value::NotHex;
+    let Some(low) = hex_pairs::pair_value(m[at + 2], m[at + 3]) else {
+        return None;
     };
-    Value::Word(word(high, low))
+    Some(word(high, low))
 }
 
 // Two bytes as a word, the high one first.

@@ -1,4 +1,5 @@
 -- Serving a message, case by case: what the tests and the callees told, and the case of the definition. Assumes nothing.
+use Rattle.std.proofs.Common.{Option, Some, None}
 use mathlib.Core.Path.{◌≡◌, refl, sym, ◌∙◌}
 use mathlib.Core.Bool.{Bool, true, false, not}
 use mathlib.Core.List.{List, []}
@@ -8,13 +9,8 @@ use lib.ListN.{length}
 use Rattle.base.specs.Buffers.{front, fitting}
 use Rattle.base.proofs.Sets.{front_none}
 use Rattle.table.specs.declared.labels.Row.{Row}
-use Rattle.table.specs.declared.labels.Found.{Found}
-use Rattle.table.specs.declared.labels.Found.TheVariants.{At, NoRow}
 use Rattle.nfo_parts.specs.declared.message.Message.{Message}
 use Rattle.nfo_parts.specs.declared.message.Message.TheVariants.{Enquiry, Select}
-use Rattle.nfo_parts.specs.declared.message.Parameter.{Parameter}
-use Rattle.nfo_parts.specs.declared.message.Value.{Value}
-use Rattle.nfo_parts.specs.declared.message.Value.TheVariants.{Word, NotHex}
 use Rattle.port.specs.Port.{Numbers, with_sioerr}
 use Rattle.drive.specs.Plant.{Plant}
 use Rattle.answers.specs.declared.Answer.TheVariants as Answers
@@ -28,63 +24,64 @@ use Rattle.service.proofs.Laws.{told_is, wrote_is}
 use Rattle.nfo_service.specs.Serve.{to_us, reaches_us, row_named, stops, row_selected, select_served, enquiry_served, served}
 use Rattle.nfo_service.specs.Reply.{adr_in, parameter_in, e_number_in, replied_by, replied}
 use Rattle.answers.specs.declared.Answer.{Answer}
+use Rattle.table.specs.declared.labels.ENumber.{ENumber}
 
 -- ---- an ENQUIRY
-module _ (p : Plant) (q : Numbers) (adr : ℕ) (name : Parameter) (t : Bool) (ours : t ≡ to_us p adr) where
+module _ (p : Plant) (q : Numbers) (adr : ℕ) (name : Option ENumber) (t : Bool) (ours : t ≡ to_us p adr) where
   pub enquiry_other : not t ≡ true → keeping p q Answers.NotOurs ≡ enquiry_served p q adr name
   unfolding enquiry_served
   enquiry_other h = simp (sym ours ∙ not-true t h)
 
-  pub enquiry_none : (g : Found) → not t ≡ false → g ≡ row_named name → g ≡ NoRow → keeping p q (Answers.Refused Refusals.NoRow) ≡ enquiry_served p q adr name
+  pub enquiry_none : (g : Option Row) → not t ≡ false → g ≡ row_named name → g ≡ None → keeping p q (Answers.Refused Refusals.NoRow) ≡ enquiry_served p q adr name
   unfolding enquiry_served
   enquiry_none g h f n = simp (sym ours ∙ not-false t h, sym f ∙ n)
 
-  pub enquiry_told : (x : Plant) (y : Numbers) (w : ℕ) (g : Found) (row : Row) → not t ≡ false → g ≡ row_named name → g ≡ At row
+  pub enquiry_told : (x : Plant) (y : Numbers) (w : ℕ) (g : Option Row) (row : Row) → not t ≡ false → g ≡ row_named name → g ≡ Some row
       → record { plant = x; port = y; word = w } ≡ told p q row.0 → keeping x y (Answers.Told row w) ≡ enquiry_served p q adr name
   unfolding enquiry_served
   enquiry_told x y w g row h f n e = simp (sym ours ∙ not-false t h, sym f ∙ n) (told_is p q x y row w e)
 
 -- ---- a SELECT
-module _ (p : Plant) (q : Numbers) (adr : ℕ) (name : Parameter) (v : Value) (t : Bool) (ours : t ≡ reaches_us p adr) where
+module _ (p : Plant) (q : Numbers) (adr : ℕ) (name : Option ENumber) (v : Option ℕ) (t : Bool) (ours : t ≡ reaches_us p adr) where
   pub select_other : not t ≡ true → keeping p q Answers.NotOurs ≡ select_served p q adr name v
   unfolding select_served
   select_other h = simp (sym ours ∙ not-true t h)
 
-  pub select_none : (g : Found) → not t ≡ false → g ≡ row_named name → g ≡ NoRow → keeping p q (Answers.Refused Refusals.NoRow) ≡ select_served p q adr name v
+  pub select_none : (g : Option Row) → not t ≡ false → g ≡ row_named name → g ≡ None → keeping p q (Answers.Refused Refusals.NoRow) ≡ select_served p q adr name v
   unfolding select_served
   select_none g h f n = simp (sym ours ∙ not-false t h, sym f ∙ n)
 
-  pub select_found : (r : Served) (g : Found) (row : Row) → not t ≡ false → g ≡ row_named name → g ≡ At row → r ≡ row_selected p q adr row v → r ≡ select_served p q adr name v
+  pub select_found : (r : Served) (g : Option Row) (row : Row) → not t ≡ false → g ≡ row_named name → g ≡ Some row → r ≡ row_selected p q adr row v → r ≡ select_served p q adr name v
   unfolding select_served
   select_found r g row h f n e = simp (sym ours ∙ not-false t h, sym f ∙ n) e
 
 -- ---- a SELECT of a row that there is
-module _ (p : Plant) (q : Numbers) (adr : ℕ) (row : Row) (v : Value) (t : Bool) (reads : t ≡ read_only row.0) where
+module _ (p : Plant) (q : Numbers) (adr : ℕ) (row : Row) (v : Option ℕ) (t : Bool) (reads : t ≡ read_only row.0) where
   pub row_read_only : t ≡ true → keeping p q (Answers.Refused Refusals.ReadOnly) ≡ row_selected p q adr row v
   unfolding row_selected
   row_read_only h = simp (sym reads ∙ h)
 
-  pub row_not_hex : t ≡ false → v ≡ NotHex → keeping p q (Answers.Refused Refusals.Malformed) ≡ row_selected p q adr row v
+  pub row_not_hex : t ≡ false → v ≡ None → keeping p q (Answers.Refused Refusals.Malformed) ≡ row_selected p q adr row v
   unfolding row_selected
   row_not_hex h n = simp (sym reads ∙ h, n)
 
-  pub row_stops : (w : ℕ) (u : Bool) (x : Plant) → t ≡ false → v ≡ Word w → u ≡ stops p adr row.0 w → u ≡ true → x ≡ stopped p
+  pub row_stops : (w : ℕ) (u : Bool) (x : Plant) → t ≡ false → v ≡ Some w → u ≡ stops p adr row.0 w → u ≡ true → x ≡ stopped p
       → keeping x (with_sioerr 0 q) (Answers.Written (record { row = row; word = w })) ≡ row_selected p q adr row v
   unfolding row_selected
   row_stops w u x h n f k e = simp (sym reads ∙ h, n, sym f ∙ k, e)
 
-  pub row_writes : (w : ℕ) (u : Bool) (x : Plant) (a : Answer) → t ≡ false → v ≡ Word w → u ≡ stops p adr row.0 w → u ≡ false
+  pub row_writes : (w : ℕ) (u : Bool) (x : Plant) (a : Answer) → t ≡ false → v ≡ Some w → u ≡ stops p adr row.0 w → u ≡ false
       → x ≡ (written p row.0 w).plant → a ≡ permitted (written p row.0 w).permit → keeping x q a ≡ row_selected p q adr row v
   unfolding row_selected
   row_writes w u x a h n f k d e = simp (sym reads ∙ h, n, sym f ∙ k) (wrote_is p x q row.0 w a d e)
 
 -- ---- a message of either kind
 module _ (p : Plant) (q : Numbers) (m : Message) (r : Served) where
-  pub served_enquiry : (adr : ℕ) (name : Parameter) → m ≡ Enquiry adr name → r ≡ enquiry_served p q adr name → r ≡ served p q m
+  pub served_enquiry : (adr : ℕ) (name : Option ENumber) → m ≡ Enquiry adr name → r ≡ enquiry_served p q adr name → r ≡ served p q m
   unfolding served
   served_enquiry adr name h e = rw h e
 
-  pub served_select : (adr : ℕ) (name : Parameter) (v : Value) → m ≡ Select adr name v → r ≡ select_served p q adr name v → r ≡ served p q m
+  pub served_select : (adr : ℕ) (name : Option ENumber) (v : Option ℕ) → m ≡ Select adr name v → r ≡ select_served p q adr name v → r ≡ served p q m
   unfolding served
   served_select adr name v h e = rw h e
 

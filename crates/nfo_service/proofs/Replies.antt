@@ -1,4 +1,5 @@
 -- Which messages have a reply, and that none is answered by the identity. Assumes nothing.
+use Rattle.std.proofs.Common.{Result, Ok, Err}
 use mathlib.Core.Path.{◌≡◌, refl, ap}
 use mathlib.Core.Bool.{true, false, not}
 use mathlib.Core.List.{[]}
@@ -14,12 +15,12 @@ use Rattle.nfo_parts.specs.Replies.{reply_of, ack_of, nak_of}
 use Rattle.nfo_parts.specs.declared.message.Message.{Message}
 use Rattle.nfo_parts.specs.declared.message.Message.TheVariants.{Enquiry, Select}
 use Rattle.permit.specs.Refusals.{read_only}
-use Rattle.permit.specs.declared.Permit.{Permit}
-use Rattle.permit.specs.declared.Permit.TheVariants.{Write, Refused}
 use Rattle.service.specs.Write.{written}
 use Rattle.service.specs.Serving.{Served, is_none, the_row, permitted, told_served, wrote_served}
 use Rattle.nfo_service.specs.Serve.{to_all, to_us, reaches_us, row_named, not_hex, the_word, stops, row_selected, enquiry_served, select_served, served}
 use Rattle.nfo_service.specs.Reply.{adr_in, replied_by, replied}
+use Rattle.answers.specs.declared.Change.{Change}
+use Rattle.answers.specs.declared.Refusal.{Refusal}
 
 -- ---- an answer that is no part of the identity
 abbrev pub NoPart : Answer → Type 0
@@ -29,9 +30,9 @@ NoPart (Answers.Identified part) = ⊥
 NoPart Answers.NotOurs = Unit {0}
 NoPart (Answers.Refused refusal) = Unit {0}
 
-permitted_no_part : (permit : Permit) → NoPart (permitted permit)
-permitted_no_part (Write change) = tt
-permitted_no_part (Refused refusal) = tt
+permitted_no_part : (permit : Result Change Refusal) → NoPart (permitted permit)
+permitted_no_part (Ok change) = tt
+permitted_no_part (Err refusal) = tt
 
 abbrev ServesNoPart : Served → Type 0
 ServesNoPart s = NoPart s.answer

@@ -10,10 +10,10 @@ ghost use Rattle.nfo_service.specs.Reply.{adr_in, parameter_in, e_number_in, rep
 
 use answers::{Answer, Change, Refusal};
 use drive::Plant;
-use nfo_parts::{Message, Parameter, Value};
+use nfo_parts::Message;
 use port::{Numbers, SIOERR};
 use table::names::{SCMD, SI_ADR};
-use table::{ENumber, Found, Row};
+use table::{ENumber, Row};
 
 // Serves a message: an ENQUIRY tells a row, a SELECT writes one. A refusal changes nothing.
 pub fn serve(plant: &mut Plant, port: &mut Numbers, message: Message) -> Answer
@@ -60,22 +60,22 @@ fn reaches_us(plant: &Plant, adr: u8) -> bool
 }
 
 // The row that a message names.
-fn row_of(parameter: Parameter) -> Found
+fn row_of(parameter: Option<ENumber>) -> Option<Row>
     ensures { result ≡ row_named parameter }
 {
-    let Parameter::Number(e) = parameter else {
-        return Found::NoRow;
+    let Some(e) = parameter else {
+        return None;
     };
     e.row()
 }
 
-fn enquire(plant: &mut Plant, port: &mut Numbers, adr: u8, parameter: Parameter) -> Answer
+fn enquire(plant: &mut Plant, port: &mut Numbers, adr: u8, parameter: Option<ENumber>) -> Answer
     ensures { record { plant = plant.new; port = port.new; answer = result } ≡ enquiry_served plant.old port.old adr parameter }
 {
     if !to_us(plant, adr) {
         return Answer::NotOurs;
     }
-    let Found::At(row) = row_of(parameter) else {
+    let Some(row) = row_of(parameter) else {
         return Answer::Refused(Refusal::NoRow);
     };
     Answer::Told(row, reading::read(plant, port, row))
@@ -85,28 +85,34 @@ fn select(
     plant: &mut Plant,
     port: &mut Numbers,
     adr: u8,
-    parameter: Parameter,
-    value: Value,
+    parameter: Option<ENumber>,
+    value: Option<u16>,
 ) -> Answer
     ensures { record { plant = plant.new; port = port.new; answer = result } ≡ select_served plant.old port.old adr parameter value }
 {
     if !reaches_us(plant, adr) {
         return Answer::NotOurs;
     }
-    let Found::At(row) = row_of(parameter) else {
+    let Some(row) = row_of(parameter) else {
         return Answer::Refused(Refusal::NoRow);
     };
     select_row(plant, port, adr, row, value)
 }
 
 // A SELECT of a row that there is.
-fn select_row(plant: &mut Plant, port: &mut Numbers, adr: u8, row: Row, value: Value) -> Answer
+fn select_row(
+    plant: &mut Plant,
+    port: &mut Numbers,
+    adr: u8,
+    row: Row,
+    value: Option<u16>,
+) -> Answer
     ensures { record { plant = plant.new; port = port.new; answer = result } ≡ row_selected plant.old port.old adr row value }
 {
     if permit::read_only(row) {
         return Answer::Refused(Refusal::ReadOnly);
     }
-    let Value::Word(word) = value else {
+    let Some(word) = value else {
         return Answer::Refused(Refusal::Malformed);
     };
     let w = word as u32;
@@ -159,7 +165,7 @@ fn adr_in(message: Message) -> u8
     }
 }
 
-fn parameter_in(message: Message) -> Parameter
+fn parameter_in(message: Message) -> Option<ENumber>
     ensures { result ≡ parameter_in message }
 {
     match message {
@@ -176,7 +182,7 @@ fn parameter_in(message: Message) -> Parameter
 fn number_in(message: Message) -> ENumber
     ensures { result.0 ≡ e_number_in (parameter_in message) }
 {
-    let Parameter::Number(e) = parameter_in(message) else {
+    let Some(e) = parameter_in(message) else {
         return ENumber(0);
     };
     e

@@ -1,4 +1,5 @@
 -- The refusals of a write, case by case: each law's premises are what the code's tests and its callees showed. Assumes nothing.
+use Rattle.std.proofs.Common.{Ok, Err}
 use mathlib.Core.Path.{◌≡◌, refl, sym, ap, ◌∙◌}
 use mathlib.Core.Bool.{Bool, true, false, not}
 use mathlib.Core.List.{List, [], ◌∷◌}
@@ -12,7 +13,6 @@ use Rattle.answers.specs.declared.Refusal.{Refusal}
 use Rattle.answers.specs.declared.Refusal.TheVariants.{NotPermitted}
 use Rattle.drive.specs.Plant.{Plant}
 use Rattle.drive.specs.Status.{flag_stands, runs}
-use Rattle.permit.specs.declared.Permit.TheVariants.{Write, Refused}
 use Rattle.permit.specs.Refusals.{read_only, allowed, is_init, init_running, permitted, read_line, write_lines}
 use Rattle.permit.specs.Permit.{permit_number, permit_by, permit_of}
 
@@ -28,11 +28,11 @@ init_running_at p row class k r d e q = q ∙ ap (λ (x : Class). both (is_init 
 -- the order past its fourth test
 module _ (p : Plant) (row w : ℕ) (o a f h t : Bool) (reads : o ≡ read_only row) (writable : o ≡ false) (allows : a ≡ allowed p row w) (fine : not a ≡ false) (flags : f ≡ flag_stands p) (unflagged : f ≡ false)
     (holds : h ≡ init_running p row) (free : h ≡ false) (permits : t ≡ permitted p row w) where
-  pub permit_no : not t ≡ true → Refused NotPermitted ≡ permit_of p row w
+  pub permit_no : not t ≡ true → Err NotPermitted ≡ permit_of p row w
   unfolding permit_of
   permit_no e = simp (← reads, writable, ← allows, fine, ← flags, unflagged, ← holds, free, ← permits, e)
 
-  pub permit_yes : not t ≡ false → Write (record { row = record { 0 = row }; word = w }) ≡ permit_of p row w
+  pub permit_yes : not t ≡ false → Ok (record { row = record { 0 = row }; word = w }) ≡ permit_of p row w
   unfolding permit_of
   permit_yes e = simp (← reads, writable, ← allows, fine, ← flags, unflagged, ← holds, free, ← permits, e)
 
@@ -47,7 +47,7 @@ by_number [] row w = refl
 by_number (l ∷ ls) row w = go l.test (by_number ls row w)
   where
     go : (t : Bool) → permit_number (permit_by ls row w) ≡ first_of (saying refusal_number ls) 0
-        → permit_number (pick t (Refused l.answer) (permit_by ls row w)) ≡ pick t (refusal_number l.answer) (first_of (saying refusal_number ls) 0)
+        → permit_number (pick t (Err l.answer) (permit_by ls row w)) ≡ pick t (refusal_number l.answer) (first_of (saying refusal_number ls) 0)
     go true e = refl
     go false e = e
 

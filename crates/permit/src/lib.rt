@@ -11,33 +11,26 @@ use drive::{DIN1, Plant};
 use table::names::*;
 use table::{Class, Row};
 
-// The permitted write, or the refusal.
-#[derive(Clone, Copy)]
-pub enum Permit {
-    Write(Change),
-    Refused(Refusal),
-}
-
-// Whether a row may be made to hold a word now: refusals 3 to 7, in this order.
-pub fn permit_of(plant: &Plant, row: Row, word: u32) -> Permit
+// The permitted write, where a row may be made to hold a word now, or the first of refusals 3 to 7, in this order.
+pub fn permit_of(plant: &Plant, row: Row, word: u32) -> Result<Change, Refusal>
     ensures { result ≡ permit_of plant.now row.0 word }
 {
     if read_only(row) {
-        return Permit::Refused(Refusal::ReadOnly);
+        return Err(Refusal::ReadOnly);
     }
     if !is_allowed(plant, row, word) {
-        return Permit::Refused(Refusal::NotAllowed);
+        return Err(Refusal::NotAllowed);
     }
     if drive::flag_stands(plant) {
-        return Permit::Refused(Refusal::FlagStands);
+        return Err(Refusal::FlagStands);
     }
     if is_init_running(plant, row) {
-        return Permit::Refused(Refusal::Running);
+        return Err(Refusal::Running);
     }
     if !is_permitted(plant, row, word) {
-        return Permit::Refused(Refusal::NotPermitted);
+        return Err(Refusal::NotPermitted);
     }
-    Permit::Write(Change { row, word })
+    Ok(Change { row, word })
 }
 
 // Whether the row is never written.

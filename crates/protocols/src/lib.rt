@@ -6,25 +6,18 @@ ghost use Rattle.protocols.specs.Words.{protocol_named};
 
 use card::Protocol;
 
-// What a word names.
-#[derive(Clone, Copy)]
-pub enum Named {
-    Protocol(Protocol),
-    Nothing,
-}
-
 // The protocol that the word names: `nfo` is NFO serial, `rtu` Modbus RTU, `ascii` Modbus ASCII. Small letters only; any other word names nothing.
-pub fn protocol_of(word: &[u8]) -> Named
+pub fn protocol_of(word: &[u8]) -> Option<Protocol>
     ensures { result ≡ protocol_named word.now }
 {
     if check::same(word, b"nfo") {
-        return Named::Protocol(Protocol::Nfo);
+        return Some(Protocol::Nfo);
     }
     if check::same(word, b"rtu") {
-        return Named::Protocol(Protocol::Rtu);
+        return Some(Protocol::Rtu);
     }
     if check::same(word, b"ascii") {
-        return Named::Protocol(Protocol::Ascii);
+        return Some(Protocol::Ascii);
     }
-    Named::Nothing
+    None
 }

@@ -1,4 +1,5 @@
 -- A call on a frame of Modbus RTU, case by case. Assumes nothing.
+use Rattle.std.proofs.Common.{Option, Some, None}
 use mathlib.Core.Path.{◌≡◌, refl, ap}
 use mathlib.Core.Bool.{Bool, true, false, not}
 use mathlib.Core.List.{List}
@@ -19,8 +20,6 @@ use Rattle.port.specs.Port.{Numbers}
 use Rattle.drive.specs.Plant.{Plant}
 use Rattle.modbus_service.specs.Reply.{exchanged_in, exchanged}
 use Rattle.modbus_service.specs.declared.Exchange.{Exchange}
-use Rattle.modbus_service.specs.declared.Reply.{Reply}
-use Rattle.modbus_service.specs.declared.Reply.TheVariants.{Nothing, Data}
 use Rattle.card.specs.State.{card_of}
 use Rattle.card.specs.declared.state.Card.{Card}
 use Rattle.card.specs.declared.outcome.Outcome.TheVariants as Outcomes
@@ -30,6 +29,7 @@ use Rattle.turn.specs.declared.Turn.{Turn}
 use Rattle.turn.specs.declared.Turned.{Turned}
 use Rattle.turn.proofs.Laws.{Does, silent, after_in}
 use Rattle.rtu_port.specs.Receive.{exchange_on, frame_of, spoilt, spoilt_in, taken, rtu_received}
+use Rattle.modbus.specs.declared.replies.Answer as Units
 
 -- ---- a frame is taken: the plant and the port are `p'` and `q'` once it is served, and the port `q''` then
 module _ (held : List ℕ) (q q' q'' : Numbers) (p p' : Plant) (i : Identity) (frame unit : List ℕ) (address : ℕ) (e : Exchange) (n : ℕ) (out before : List ℕ)
@@ -63,9 +63,9 @@ module _ (held : List ℕ) (len : ℕ) (q : Numbers) (p : Plant) (i : Identity) 
   holds_one holds r out h d t e = simp (le-ltb (length before) rtu_least h, ← d, not-false holds t) e
 
 -- ---- what a caller may count on: the bytes used are there, one at least is used, and a reply has 75 bytes at most
-frame_short : (i : Identity) (address : ℕ) (said : Reply) → length (frame_of i address said) ≤ 75
-frame_short i address Nothing = omega arith
-frame_short i address (Data answer) = omega (arith, rtu_length address (unit_of i answer), unit_short i answer)
+frame_short : (i : Identity) (address : ℕ) (said : Option Units.Answer) → length (frame_of i address said) ≤ 75
+frame_short i address None = omega arith
+frame_short i address (Some answer) = omega (arith, rtu_length address (unit_of i answer), unit_short i answer)
 
 module _ (c : Card) (frame : List ℕ) (room : ℕ) where
   pub rtu_used : (rtu_received c frame room).used ≤ length frame

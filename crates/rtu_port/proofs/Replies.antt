@@ -1,4 +1,5 @@
 -- What is replied to a frame that is taken. Assumes nothing.
+use Rattle.std.proofs.Common.{Some}
 use mathlib.Core.Path.{◌≡◌, ap, ◌∙◌}
 use mathlib.Core.Bool.{true}
 use mathlib.Core.List.{List}
@@ -9,12 +10,11 @@ use Rattle.modbus.specs.declared.replies.Answer.{Answer}
 use Rattle.modbus.proofs.Units.{unit_short, unit_some}
 use Rattle.rtu.specs.Rtu.{frame_holds, address_in, unit_in, rtu_of}
 use Rattle.rtu.proofs.RoundTrip.{own_address, own_unit, own_frame}
-use Rattle.modbus_service.specs.declared.Reply.TheVariants.{Data}
 use Rattle.card.specs.declared.state.Card.{Card}
 use Rattle.rtu_port.specs.Receive.{exchange_on, frame_of, taken}
 
 -- where there is an answer, a frame is replied whose length and CRC are right; it comes from the address that was asked, and its data unit is the answer's
-pub replies : (c : Card) (frame : List ℕ) (answer : Answer) → (exchange_on c frame).reply ≡ Data answer
+pub replies : (c : Card) (frame : List ℕ) (answer : Answer) → (exchange_on c frame).reply ≡ Some answer
     → (frame_holds (taken c frame).reply ≡ true) × (address_in (taken c frame).reply ≡ address_in frame) × (unit_in (taken c frame).reply ≡ unit_of c.identity answer)
 replies c frame answer e =
     let a : ℕ = address_in frame in

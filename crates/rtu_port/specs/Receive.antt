@@ -1,22 +1,22 @@
 -- A call on a frame of Modbus RTU: "An RTU call uses all, save at 10". Assumes nothing.
-use Rattle.std.specs.Prelude.{List, [], ℕ, ltb, length}
+use Rattle.std.specs.Prelude.{List, [], ℕ, ltb, length, Option}
 use Rattle.base.specs.Choice.{pick}
 use Rattle.base.specs.Buffers.{rtu_least}
 use Rattle.identity.specs.Identity.{Identity}
 use Rattle.rtu.specs.Rtu.{frame_holds, address_in, unit_in, rtu_of}
 use Rattle.modbus_service.specs.Reply.{sent_by, Exchanged, exchanged}
-use Rattle.modbus_service.specs.declared.Reply.{Reply}
 use Rattle.card.specs.declared.state.Card.{Card}
 use Rattle.card.specs.declared.outcome.Outcome.TheVariants as Outcomes
 use Rattle.turn.specs.Turn.{Received, too_short, answered}
 use Rattle.turn.specs.declared.Turned.{Turned}
+use Rattle.modbus.specs.declared.replies.Answer as Units
 
 -- what a frame's data unit comes to, on this card
 abbrev pub exchange_on : Card → List ℕ → Exchanged
 exchange_on c frame = exchanged c.plant c.port.numbers (address_in frame) (unit_in frame)
 
 -- the reply's frame, from the request's address, of a card with this identity
-abbrev pub frame_of : Identity → ℕ → Reply → List ℕ
+abbrev pub frame_of : Identity → ℕ → Option Units.Answer → List ℕ
 frame_of = sent_by rtu_of
 
 -- "11: RTU length or CRC wrong"

@@ -12,7 +12,7 @@ use base::RTU_REPLY;
 use card::Outcome;
 use drive::Plant;
 use identity::Identity;
-use modbus_service::Reply;
+use modbus::Answer;
 use port::Numbers;
 use turn::{Turned, after_message, short_buffer};
 
@@ -79,13 +79,13 @@ fn take(
 }
 
 // Puts the reply's frame, where there is a reply.
-fn put(address: u8, said: Reply, identity: &Identity, reply: &mut [u8]) -> usize
+fn put(address: u8, said: Option<Answer>, identity: &Identity, reply: &mut [u8]) -> usize
     requires { rtu_least ≤ length reply.old }
     ensures count { result ≡ length (frame_of identity.now address said) }
     ensures lent { reply.new ≡ front (frame_of identity.now address said) reply.old }
 {
     match said {
-        Reply::Nothing => 0,
-        Reply::Data(answer) => rtu::put_rtu(address, answer, identity, reply),
+        None => 0,
+        Some(answer) => rtu::put_rtu(address, answer, identity, reply),
     }
 }

@@ -1,4 +1,5 @@
 -- What was read and what was written, as what serving comes to. Assumes nothing.
+use Rattle.std.proofs.Common.{Result, Ok, Err}
 use mathlib.Core.Path.{◌≡◌, refl, sym, ap, ◌∙◌}
 use Prim.Native.Nat.{ℕ}
 use Rattle.table.specs.declared.labels.Row.{Row}
@@ -6,12 +7,12 @@ use Rattle.port.specs.Port.{Numbers}
 use Rattle.drive.specs.Plant.{Plant}
 use Rattle.answers.specs.declared.Answer.{Answer}
 use Rattle.answers.specs.Answer.{answer_number}
-use Rattle.permit.specs.declared.Permit.{Permit}
-use Rattle.permit.specs.declared.Permit.TheVariants.{Write, Refused}
 use Rattle.permit.specs.Permit.{permit_of}
 use Rattle.reading.specs.Read.{told}
 use Rattle.service.specs.Write.{Written, after, written}
 use Rattle.service.specs.Serving.{Served, keeping, telling, told_served, permitted, wrote_served}
+use Rattle.answers.specs.declared.Change.{Change}
+use Rattle.answers.specs.declared.Refusal.{Refusal}
 
 -- a row was read
 pub told_is : (p q x y : Plant) (row : Row) (word : ℕ) → record { plant = x; port = y; word = word } ≡ told p q row.0 → telling row (record { plant = x; port = y; word = word }) ≡ told_served p q row
@@ -19,11 +20,11 @@ unfolding told_served
 told_is p q x y row word e = ap (telling row) e
 
 -- a row was written: the plant then, and an arm of the `match` on what was permitted
-module _ (p x : Plant) (row w : ℕ) (r : Permit) (e : ◌≡◌ {A = Written} (record { plant = x; permit = r }) (written p row w)) where
+module _ (p x : Plant) (row w : ℕ) (r : Result Change Refusal) (e : ◌≡◌ {A = Written} (record { plant = x; permit = r }) (written p row w)) where
   pub wrote_plant : x ≡ (written p row w).plant
   wrote_plant = ap (λ (t : Written). t.plant) e
 
-  pub wrote_answer : (k : Permit) (a : Answer) → r ≡ k → a ≡ permitted k → a ≡ permitted (written p row w).permit
+  pub wrote_answer : (k : Result Change Refusal) (a : Answer) → r ≡ k → a ≡ permitted k → a ≡ permitted (written p row w).permit
   wrote_answer k a h q = q ∙ ap permitted (sym h ∙ ap (λ (t : Written). t.permit) e)
 
 -- what the two promises of a write say together, whatever the port
@@ -37,6 +38,6 @@ pub wrote_keeps : (p : Plant) (q : Numbers) (row w : ℕ) → (answer_number (wr
 unfolding wrote_served written
 wrote_keeps p q row w = go (permit_of p row w)
   where
-    go : (k : Permit) → (answer_number (permitted k) ≡ 0 → ⊥) → keeping (after k p) q (permitted k) ≡ keeping p q (permitted k)
-    go (Write change) n = absurd (n refl)
-    go (Refused refusal) n = refl
+    go : (k : Result Change Refusal) → (answer_number (permitted k) ≡ 0 → ⊥) → keeping (after k p) q (permitted k) ≡ keeping p q (permitted k)
+    go (Ok change) n = absurd (n refl)
+    go (Err refusal) n = refl

@@ -1,4 +1,5 @@
 -- What a write leaves: the row holds the word, what follows from it holds, and all else is as it was. Assumes nothing.
+use Rattle.std.proofs.Common.{Result, Ok, Err}
 use mathlib.Core.Path.{◌≡◌, refl, sym, ap, ◌∙◌}
 use mathlib.Core.Bool.{Bool, true, false, not}
 use mathlib.Core.List.{List, [], ◌∷◌}
@@ -20,8 +21,6 @@ use Rattle.drive.specs.Status.{flag_stands, Right}
 use Rattle.drive.proofs.Righted.{righted_other, righted_right}
 use Rattle.answers.specs.declared.Change.{Change}
 use Rattle.answers.specs.declared.Refusal.{Refusal}
-use Rattle.permit.specs.declared.Permit.{Permit}
-use Rattle.permit.specs.declared.Permit.TheVariants.{Write, Refused}
 use Rattle.permit.specs.Refusals.{is_read, read_only, allowed, init_running, permitted, read_line, write_lines}
 use Rattle.permit.specs.Permit.{permit_by, permit_of}
 use Rattle.reading.specs.Read.{Told, told}
@@ -100,17 +99,17 @@ writable_row row e = go (ltb SCMD row) refl
     go false q = ltb-false SCMD row q
 
 -- a write is permitted where no refusal applies, and it is the write that was asked
-none_applies : (ls : List (Line Refusal)) (row w : ℕ) (change : Change) → permit_by ls row w ≡ Write change → (none_of ls ≡ true) × (change ≡ record { row = record { 0 = row }; word = w })
+none_applies : (ls : List (Line Refusal)) (row w : ℕ) (change : Change) → permit_by ls row w ≡ Ok change → (none_of ls ≡ true) × (change ≡ record { row = record { 0 = row }; word = w })
 none_applies [] row w change e = (refl, cc)
 none_applies (l ∷ ls) row w change e = go l.test (none_applies ls row w change) e
   where
-    go : (t : Bool) → (permit_by ls row w ≡ Write change → (none_of ls ≡ true) × (change ≡ record { row = record { 0 = row }; word = w }))
-        → pick t (Refused l.answer) (permit_by ls row w) ≡ Write change → (both (not t) (none_of ls) ≡ true) × (change ≡ record { row = record { 0 = row }; word = w })
+    go : (t : Bool) → (permit_by ls row w ≡ Ok change → (none_of ls ≡ true) × (change ≡ record { row = record { 0 = row }; word = w }))
+        → pick t (Err l.answer) (permit_by ls row w) ≡ Ok change → (both (not t) (none_of ls) ≡ true) × (change ≡ record { row = record { 0 = row }; word = w })
     go true ih e = (cc, cc)
     go false ih e = ih e
 
 -- so it is of a row that can be written, while no flag stands, and the row holds the word then
-pub written_permits : (p : Plant) (row w : ℕ) (change : Change) → (written p row w).permit ≡ Write change
+pub written_permits : (p : Plant) (row w : ℕ) (change : Change) → (written p row w).permit ≡ Ok change
     → (change ≡ record { row = record { 0 = row }; word = w }) × (row ≤ SCMD) × (flag_stands p ≡ false) × ((written p row w).plant ≡ applied row w p)
 unfolding written permit_of
 written_permits p row w change e =
@@ -118,4 +117,4 @@ written_permits p row w change e =
     let a = both_out (not (read_only row)) (none_of (write_lines p row w)) n.0 in
     let b = both_out (not (not (allowed p row w))) (both (not (flag_stands p)) (both (not (init_running p row)) (both (not (not (permitted p row w))) true))) a.1 in
     let c = both_out (not (flag_stands p)) (both (not (init_running p row)) (both (not (not (permitted p row w))) true)) b.1 in
-    (n.1, writable_row row (not-true (read_only row) a.0), not-true (flag_stands p) c.0, ap (λ (k : Permit). after k p) e ∙ ap (λ (k : Change). after (Write k) p) n.1)
+    (n.1, writable_row row (not-true (read_only row) a.0), not-true (flag_stands p) c.0, ap (λ (k : Result Change Refusal). after k p) e ∙ ap (λ (k : Change). after (Ok k) p) n.1)

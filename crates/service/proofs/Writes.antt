@@ -1,4 +1,5 @@
 -- A write, case by case: each law's premises are what the code's tests and its callees showed. Assumes nothing.
+use Rattle.std.proofs.Common.{Result, Ok, Err}
 use mathlib.Core.Path.{◌≡◌, ap, ◌∙◌}
 use Prim.Native.Nat.{ℕ, ◌<◌, ◌≤◌}
 use lib.Dec.{eqb, ltb}
@@ -10,8 +11,6 @@ use Rattle.answers.specs.declared.Change.{Change}
 use Rattle.answers.specs.declared.Refusal.{Refusal}
 use Rattle.drive.specs.Plant.{Plant}
 use Rattle.drive.specs.Status.{righted}
-use Rattle.permit.specs.declared.Permit.{Permit}
-use Rattle.permit.specs.declared.Permit.TheVariants.{Write, Refused}
 use Rattle.permit.specs.Permit.{permit_of}
 use Rattle.service.specs.Write.{Written, followed, applied, written}
 
@@ -37,11 +36,11 @@ module _ (p : Plant) (row w : ℕ) where
       pick_both P (ltb SCMD row) (λ e. past (ltb-true SCMD row e)) (λ e.
       pick_both P (eqb (get_or p row 0) w) (λ q. same (ltb-false SCMD row e) (eqb-true (get_or p row 0) w q)) (λ q. other (ltb-false SCMD row e) (eqb-false (get_or p row 0) w q)))
 
-module _ (p after : Plant) (row w : ℕ) (r : Permit) (permits : r ≡ permit_of p row w) where
-  pub written_done : (change : Change) → r ≡ Write change → after ≡ applied change.row.0 change.word p → ◌≡◌ {A = Written} (record { plant = after; permit = Write change }) (written p row w)
+module _ (p after : Plant) (row w : ℕ) (r : Result Change Refusal) (permits : r ≡ permit_of p row w) where
+  pub written_done : (change : Change) → r ≡ Ok change → after ≡ applied change.row.0 change.word p → ◌≡◌ {A = Written} (record { plant = after; permit = Ok change }) (written p row w)
   unfolding written
   written_done change h e = simp (e, ← permits, h)
 
-  pub written_refused : (refusal : Refusal) → r ≡ Refused refusal → ◌≡◌ {A = Written} (record { plant = p; permit = r }) (written p row w)
+  pub written_refused : (refusal : Refusal) → r ≡ Err refusal → ◌≡◌ {A = Written} (record { plant = p; permit = r }) (written p row w)
   unfolding written
   written_refused refusal h = simp (← permits, h)

@@ -2,18 +2,18 @@
 ghost use Rattle.std.specs.Prelude.{◌≡◌};
 ghost use Rattle.service.specs.Write.{followed, applied, written};
 
-use answers::Change;
+use answers::{Change, Refusal};
 use drive::Plant;
-use permit::{Permit, permit_of};
+use permit::permit_of;
 use table::Row;
 use table::names::*;
 
 // Writes a row where that is permitted, and tells what was written or the refusal.
-pub(crate) fn write(plant: &mut Plant, row: Row, word: u32) -> Permit
+pub(crate) fn write(plant: &mut Plant, row: Row, word: u32) -> Result<Change, Refusal>
     ensures { record { plant = plant.new; permit = result } ≡ written plant.old row.0 word }
 {
     let permit = permit_of(plant, row, word);
-    let Permit::Write(change) = permit else {
+    let Ok(change) = permit else {
         return permit;
     };
     apply(plant, change);

@@ -9,7 +9,6 @@ ghost use Rattle.service.specs.Serving.{permitted};
 
 use answers::Answer;
 use drive::Plant;
-use permit::Permit;
 use table::Row;
 
 // A row is written where that is permitted. A refused write changes nothing.
@@ -19,7 +18,7 @@ pub fn write(plant: &mut Plant, row: Row, word: u32) -> Answer
 {
     let permit = changes::write(plant, row, word);
     match permit {
-        Permit::Write(change) => Answer::Written(change),
-        Permit::Refused(refusal) => Answer::Refused(refusal),
+        Ok(change) => Answer::Written(change),
+        Err(refusal) => Answer::Refused(refusal),
     }
 }

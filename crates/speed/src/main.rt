@@ -12,12 +12,11 @@ ghost use Rattle.std.specs.Prelude.{◌≤◌, length, IfOk};
 
 use card::{Card, Protocol};
 use identity::BLANK;
-use protocols::Named;
 use rounds::{Tally, round};
 use std::env::Env;
 use std::io;
 use std::io::{Read, Write};
-use workload::{Number, number_of, read_lines};
+use workload::{number_of, read_lines};
 
 fn complain<W: Write>(to: &mut W) -> io::Result<()> {
     to.write_all(
@@ -128,13 +127,13 @@ fn main(rt: HostRuntime) -> io::Result<()> {
     let Ok(n) = rt.arg(1, &mut word) else {
         return complain(&mut rt.stderr());
     };
-    let Named::Protocol(protocol) = protocols::protocol_of(&word[..n]) else {
+    let Some(protocol) = protocols::protocol_of(&word[..n]) else {
         return complain(&mut rt.stderr());
     };
     let Ok(m) = rt.arg(2, &mut number) else {
         return complain(&mut rt.stderr());
     };
-    let Number::Of(rounds) = number_of(&number[..m]) else {
+    let Some(rounds) = number_of(&number[..m]) else {
         return complain(&mut rt.stderr());
     };
     measure(&rt, &word[..n], protocol, rounds)

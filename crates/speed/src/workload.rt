@@ -1,34 +1,27 @@
 // The workload, and the number of rounds, as text.
 ghost use Rattle.std.specs.Prelude.{◌≡◌, ◌≤◌, length};
 
-// What a word is as a number.
-#[derive(Clone, Copy)]
-pub(crate) enum Number {
-    Of(u64),
-    None,
-}
-
 // The number that up to nine decimal digits spell.
-pub(crate) fn number_of(word: &[u8]) -> Number {
+pub(crate) fn number_of(word: &[u8]) -> Option<u64> {
     if word.len() == 0 {
-        return Number::None;
+        return None;
     }
     if 9 < word.len() {
-        return Number::None;
+        return None;
     }
     let mut n: u64 = 0;
     let mut i: usize = 0;
     while i < word.len() {
         if word[i] < b'0' {
-            return Number::None;
+            return None;
         }
         if b'9' < word[i] {
-            return Number::None;
+            return None;
         }
         n = (n * 10 + ((word[i] - b'0') as u64)) % 10000000000;
         i += 1;
     }
-    Number::Of(n)
+    Some(n)
 }
 
 // Puts the bytes that each line spells one after another into `work`, and where each ends into `ends`. Tells how many bytes there are, or 0 where a line is no

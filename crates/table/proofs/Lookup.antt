@@ -1,4 +1,5 @@
 -- Searching the table: where no row passes, where two tests pass the same rows, and the row of a span. Assumes nothing.
+use Rattle.std.proofs.Common.{Option, Some, None}
 use mathlib.Core.Path.{◌≡◌, refl, sym, ap, ◌∙◌}
 use mathlib.Core.Bool.{Bool, true, false}
 use mathlib.Core.List.{List, [], ◌∷◌}
@@ -14,10 +15,6 @@ use Rattle.table.specs.Address.{address, first_register, adi_of}
 use Rattle.table.specs.Find.{first_row, has_e, has_adi, row_of_e, row_of_adi, row_from, row_of_span}
 use Rattle.table.specs.declared.labels.AdiNumber.{AdiNumber}
 use Rattle.table.specs.declared.labels.Row.{Row}
-use Rattle.table.specs.declared.labels.FirstOf.{FirstOf}
-use Rattle.table.specs.declared.labels.FirstOf.TheVariants.{Adi, NoAdi}
-use Rattle.table.specs.declared.labels.Found.{Found}
-use Rattle.table.specs.declared.labels.Found.TheVariants.{At, NoRow}
 use Rattle.table.proofs.Apart.{every, pairwise, apart, apart_out, all_apart}
 use Rattle.base.proofs.Arms.{NoneOf}
 
@@ -28,7 +25,7 @@ labels add [] = []
 labels add (x ∷ xs) = add x (labels add xs)
 
 none_found : (test : ℕ → Entry → Bool) (add : Entry → List ℕ → List ℕ) → ((n : ℕ) (x : Entry) (ks : List ℕ) → NoneOf n (add x ks) → (test n x ≡ false) × NoneOf n ks)
-    → (n : ℕ) (xs : List Entry) → NoneOf n (labels add xs) → NoRow ≡ first_row (test n) xs
+    → (n : ℕ) (xs : List Entry) → NoneOf n (labels add xs) → None ≡ first_row (test n) xs
 unfolding first_row
 none_found test add miss n [] h = refl
 none_found test add miss n (x ∷ xs) h = let m = miss n x (labels add xs) h in simp m.0 (none_found test add miss n xs m.1)
@@ -69,7 +66,7 @@ miss_e n (E m) ks h = (ne_eqb m n (λ q. h.0 (sym q)), h.1)
 miss_e n no_e ks h = (refl, h)
 
 -- no row has the E number n, where n is from lo on, below hi, and none of the E numbers there
-pub no_e_lem : (lo hi n : ℕ) (keys : List ℕ) → keyed lo hi keys (labels (λ (x : Entry). add_e x.parameter) rows) ≡ true → lo ≤ n → n < hi → NoneOf n keys → NoRow ≡ row_of_e n
+pub no_e_lem : (lo hi n : ℕ) (keys : List ℕ) → keyed lo hi keys (labels (λ (x : Entry). add_e x.parameter) rows) ≡ true → lo ≤ n → n < hi → NoneOf n keys → None ≡ row_of_e n
 unfolding row_of_e
 no_e_lem lo hi n keys e l u h =
     none_found (λ n x. has_e n x.parameter) (λ x. add_e x.parameter) (λ n x. miss_e n x.parameter) n rows
@@ -84,7 +81,7 @@ miss_adi n (ADI m) ks h = (ne_eqb m n (λ q. h.0 (sym q)), h.1)
 miss_adi n (register r) ks h = (refl, h)
 
 -- the same of the ADI number n
-pub no_adi : (lo hi n : ℕ) (keys : List ℕ) → keyed lo hi keys (labels (λ (x : Entry). add_adi x.place) rows) ≡ true → lo ≤ n → n < hi → NoneOf n keys → NoRow ≡ row_of_adi n
+pub no_adi : (lo hi n : ℕ) (keys : List ℕ) → keyed lo hi keys (labels (λ (x : Entry). add_adi x.place) rows) ≡ true → lo ≤ n → n < hi → NoneOf n keys → None ≡ row_of_adi n
 unfolding row_of_adi
 no_adi lo hi n keys e l u h =
     none_found (λ n x. has_adi n x.place) (λ x. add_adi x.place) (λ n x. miss_adi n x.place) n rows
@@ -95,17 +92,17 @@ abbrev pub others : List ℕ
 others = 34 ∷ 35 ∷ 38 ∷ 323 ∷ 125 ∷ 120 ∷ 39 ∷ 19 ∷ []
 
 -- a number outside of 301 to 322 that is none of them is no row's
-pub no_adi_outside : (n : ℕ) → (n < 301) ⊎ (323 ≤ n) → NoneOf n others → NoRow ≡ row_of_adi n
+pub no_adi_outside : (n : ℕ) → (n < 301) ⊎ (323 ≤ n) → NoneOf n others → None ≡ row_of_adi n
 unfolding rows
 no_adi_outside n (inl l) h = no_adi 0 301 n others refl (omega arith) l h
 no_adi_outside n (inr l) h = no_adi 323 (suc n) n others refl l (omega arith) h
 
 -- ---- the address rule, read backwards
-pub adi_some : (r : ℕ) (a : AdiNumber) → adi_of r ≡ Adi a → (1 ≤ a.0) × (r ≡ address a.0)
+pub adi_some : (r : ℕ) (a : AdiNumber) → adi_of r ≡ Some a → (1 ≤ a.0) × (r ≡ address a.0)
 unfolding adi_of address
 adi_some r a e = go (ltb r 528) (eqb ((r - 528) % 4) 0) refl refl e
   where
-    go : (s t : Bool) → ltb r 528 ≡ s → eqb ((r - 528) % 4) 0 ≡ t → pick s NoAdi (pick t (Adi (record { 0 = (r - 528) / 4 + 1 })) NoAdi) ≡ Adi a
+    go : (s t : Bool) → ltb r 528 ≡ s → eqb ((r - 528) % 4) 0 ≡ t → pick s None (pick t (Some (record { 0 = (r - 528) / 4 + 1 })) None) ≡ Some a
         → (1 ≤ a.0) × (r ≡ 528 + 4 * (a.0 - 1))
     go true t p q e = let z : ◌≡◌ {A = ℕ} 0 1 = cc in absurd (omega arith)
     go false true p q e =
@@ -115,11 +112,11 @@ adi_some r a e = go (ltb r 528) (eqb ((r - 528) % 4) 0) refl refl e
         (omega arith, omega arith)
     go false false p q e = let z : ◌≡◌ {A = ℕ} 0 1 = cc in absurd (omega arith)
 
-pub adi_none : (r n : ℕ) → adi_of r ≡ NoAdi → 1 ≤ n → address n ≡ r → ⊥
+pub adi_none : (r n : ℕ) → adi_of r ≡ None → 1 ≤ n → address n ≡ r → ⊥
 unfolding adi_of address
 adi_none r n e h k = go (ltb r 528) (eqb ((r - 528) % 4) 0) refl refl e
   where
-    go : (s t : Bool) → ltb r 528 ≡ s → eqb ((r - 528) % 4) 0 ≡ t → pick s NoAdi (pick t (Adi (record { 0 = (r - 528) / 4 + 1 })) NoAdi) ≡ NoAdi → ⊥
+    go : (s t : Bool) → ltb r 528 ≡ s → eqb ((r - 528) % 4) 0 ≡ t → pick {A = Option AdiNumber} s None (pick t (Some (record { 0 = (r - 528) / 4 + 1 })) None) ≡ None → ⊥
     go true t p q e = omega (arith, ltb-true r 528 p)
     go false true p q e = let z : ◌≡◌ {A = ℕ} 0 1 = cc in omega arith
     go false false p q e =
@@ -145,13 +142,13 @@ module _ (s t : Place → Bool) (same : (p : Place) → fine p ≡ true → s p 
       let h = both_out (fine x.place) (every (λ (y : Entry). fine y.place) xs) e in
       simp (same x.place h.0, same_rows xs h.1)
 
-nothing_passes : (xs : List Entry) → NoRow ≡ first_row (λ (x : Entry). false) xs
+nothing_passes : (xs : List Entry) → None ≡ first_row (λ (x : Entry). false) xs
 unfolding first_row
 nothing_passes [] = refl
 nothing_passes (x ∷ xs) = nothing_passes xs
 
 -- the register that is an ADI number's address leads to that number's row
-pub from_adi : (r : ℕ) (g : FirstOf) (a : AdiNumber) (f : Found) → g ≡ adi_of r → g ≡ Adi a → f ≡ row_of_adi a.0 → f ≡ row_from r
+pub from_adi : (r : ℕ) (g : Option AdiNumber) (a : AdiNumber) (f : Option Row) → g ≡ adi_of r → g ≡ Some a → f ≡ row_of_adi a.0 → f ≡ row_from r
 unfolding row_of_adi row_from first_register address
 from_adi r g a f d e q = q ∙ same_rows (has_adi a.0) (λ (p : Place). eqb (first_register p) r) same rows all_fine
   where
@@ -170,7 +167,7 @@ from_adi r g a f d e q = q ∙ same_rows (has_adi a.0) (λ (p : Place). eqb (fir
     same (register x) h = sym (ne_eqb x r (λ y. n (sym y ∙ eqb-true _ _ h)))
 
 -- any other leads nowhere, but for 02A5h
-pub from_none : (r : ℕ) (g : FirstOf) → (r ≡ 0x02A5 → ⊥) → g ≡ adi_of r → g ≡ NoAdi → NoRow ≡ row_from r
+pub from_none : (r : ℕ) (g : Option AdiNumber) → (r ≡ 0x02A5 → ⊥) → g ≡ adi_of r → g ≡ None → None ≡ row_from r
 unfolding row_from first_register
 from_none r g n d e = nothing_passes rows ∙ same_rows (λ (p : Place). false) (λ (p : Place). eqb (first_register p) r) same rows all_fine
   where
@@ -197,7 +194,7 @@ spans r n x = both (begins r x) (eqb x.line.registers n)
 not_there : (r : ℕ) (x y : Entry) → begins r x ≡ true → apart x y ≡ true → begins r y ≡ false
 not_there r x y b a = rw (eqb-true (first_register x.place) r b) at (apart_out x y a).first
 
-no_span : (r n : ℕ) (x : Entry) (xs : List Entry) → begins r x ≡ true → every (apart x) xs ≡ true → NoRow ≡ first_row (spans r n) xs
+no_span : (r n : ℕ) (x : Entry) (xs : List Entry) → begins r x ≡ true → every (apart x) xs ≡ true → None ≡ first_row (spans r n) xs
 unfolding first_row
 no_span r n x [] b e = refl
 no_span r n x (y ∷ ys) b e =
@@ -205,9 +202,9 @@ no_span r n x (y ∷ ys) b e =
     simp (not_there r x y b h.0) (no_span r n x ys b h.1)
 
 -- the row that begins there, where its width is the count
-abbrev of_width : ℕ → Found → Found
-of_width n (At row) = pick (eqb (line_at row.0).registers n) (At row) NoRow
-of_width n NoRow = NoRow
+abbrev of_width : ℕ → Option Row → Option Row
+of_width n (Some row) = pick (eqb (line_at row.0).registers n) (Some row) None
+of_width n None = None
 
 span_found : (r n : ℕ) (xs : List Entry) → every listed xs ≡ true → pairwise apart xs ≡ true → first_row (spans r n) xs ≡ of_width n (first_row (begins r) xs)
 unfolding first_row
@@ -233,11 +230,11 @@ span_is : (r n : ℕ) → row_of_span r n ≡ of_width n (row_from r)
 unfolding row_of_span row_from
 span_is r n = span_found r n rows all_listed all_apart
 
-pub span_none : (r n : ℕ) (f : Found) → f ≡ row_from r → f ≡ NoRow → NoRow ≡ row_of_span r n
+pub span_none : (r n : ℕ) (f : Option Row) → f ≡ row_from r → f ≡ None → None ≡ row_of_span r n
 span_none r n f d e = sym (span_is r n ∙ ap (of_width n) (sym d ∙ e))
 
-pub span_fits : (r n w : ℕ) (f : Found) (row : Row) → f ≡ row_from r → f ≡ At row → w ≡ (line_at row.0).registers → w ≡ n → At row ≡ row_of_span r n
+pub span_fits : (r n w : ℕ) (f : Option Row) (row : Row) → f ≡ row_from r → f ≡ Some row → w ≡ (line_at row.0).registers → w ≡ n → Some row ≡ row_of_span r n
 span_fits r n w f row d e q h = sym (span_is r n ∙ ap (of_width n) (sym d ∙ e) ∙ simp (eq-eqb (line_at row.0).registers n (sym q ∙ h)))
 
-pub span_other : (r n w : ℕ) (f : Found) (row : Row) → f ≡ row_from r → f ≡ At row → w ≡ (line_at row.0).registers → (w ≡ n → ⊥) → NoRow ≡ row_of_span r n
+pub span_other : (r n w : ℕ) (f : Option Row) (row : Row) → f ≡ row_from r → f ≡ Some row → w ≡ (line_at row.0).registers → (w ≡ n → ⊥) → None ≡ row_of_span r n
 span_other r n w f row d e q h = sym (span_is r n ∙ ap (of_width n) (sym d ∙ e) ∙ simp (ne_eqb (line_at row.0).registers n (λ z. h (q ∙ z))))

@@ -1,9 +1,8 @@
 -- The address rule. Assumes nothing.
-use Rattle.std.specs.Prelude.{ℕ, ◌+◌, ◌-◌, ◌*◌, ◌/◌, ◌%◌, ltb, eqb}
+use Rattle.std.specs.Prelude.{ℕ, ◌+◌, ◌-◌, ◌*◌, ◌/◌, ◌%◌, ltb, eqb, Option, Some, None}
 use Rattle.base.specs.Choice.{pick}
 use Rattle.table.specs.Table.{Place, ADI, register}
-use Rattle.table.specs.declared.labels.FirstOf.{FirstOf}
-use Rattle.table.specs.declared.labels.FirstOf.TheVariants.{Adi, NoAdi}
+use Rattle.table.specs.declared.labels.AdiNumber.{AdiNumber}
 
 -- "Register = 528 + 4 × (ADI − 1)"
 unfoldable pub address : ℕ → ℕ
@@ -15,5 +14,5 @@ first_register (ADI n) = address n
 first_register (register r) = r
 
 -- the ADI number whose address a register is
-unfoldable pub adi_of : ℕ → FirstOf
-adi_of r = pick (ltb r 528) NoAdi (pick (eqb ((r - 528) % 4) 0) (Adi (record { 0 = (r - 528) / 4 + 1 })) NoAdi)
+unfoldable pub adi_of : ℕ → Option AdiNumber
+adi_of r = pick (ltb r 528) None (pick (eqb ((r - 528) % 4) 0) (Some (record { 0 = (r - 528) / 4 + 1 })) None)

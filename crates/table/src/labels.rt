@@ -16,33 +16,19 @@ pub struct Register(pub u16);
 #[derive(Clone, Copy)]
 pub struct Row(pub usize);
 
-// What a label leads to.
-#[derive(Clone, Copy)]
-pub enum Found {
-    At(Row),
-    NoRow,
-}
-
-// Which ADI number's registers begin at a register.
-#[derive(Clone, Copy)]
-pub(crate) enum FirstOf {
-    Adi(AdiNumber),
-    NoAdi,
-}
-
 impl Register {
-    // The address rule, 528 + 4 × (ADI − 1), read backwards.
-    pub(crate) fn adi(self) -> FirstOf
+    // The ADI number whose registers begin here: the address rule, 528 + 4 × (ADI − 1), read backwards.
+    pub(crate) fn adi(self) -> Option<AdiNumber>
         ensures { result ≡ adi_of self.0 }
     {
         let r = self.0;
         if r < 528 {
-            return FirstOf::NoAdi;
+            return None;
         }
         let above = r - 528;
         if above % 4 != 0 {
-            return FirstOf::NoAdi;
+            return None;
         }
-        FirstOf::Adi(AdiNumber(above / 4 + 1))
+        Some(AdiNumber(above / 4 + 1))
     }
 }

@@ -9,5 +9,5 @@ mod labels;
 mod lines;
 pub mod names;
 
-pub use labels::{AdiNumber, ENumber, Found, Register, Row};
+pub use labels::{AdiNumber, ENumber, Register, Row};
 pub use lines::{Allowed, Class};

@@ -20,14 +20,14 @@ returns-in_default-span-2 c = search task_many_none
 pub returns-then-broadcast_read : goal.returns-then-broadcast_read
 returns-then-broadcast_read c = search task_malformed_all
 
-pub returns-in-At : goal.returns-in-At
-returns-in-At c = search task_read
+pub returns-in-Some : goal.returns-in-Some
+returns-in-Some c = search task_read
 
-pub returns-in-At-span : goal.returns-in-At-span
-returns-in-At-span c = search task_one
+pub returns-in-Some-span : goal.returns-in-Some-span
+returns-in-Some-span c = search task_one
 
-pub returns-in-At-span-2 : goal.returns-in-At-span-2
-returns-in-At-span-2 c = search task_many
+pub returns-in-Some-span-2 : goal.returns-in-Some-span-2
+returns-in-Some-span-2 c = search task_many
 
 pub returns-in-Identify : goal.returns-in-Identify
 returns-in-Identify c = search task_identify

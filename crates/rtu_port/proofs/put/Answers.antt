@@ -3,8 +3,8 @@ use Rattle.modbus_service.proofs.Sending.{put_none, put_unit}
 use Rattle.rtu.specs.Rtu.{rtu_of}
 use Rattle.rtu_port.proofs.put.Goals as goal
 
-pub returns-in-Nothing : goal.returns-in-Nothing
-returns-in-Nothing c = let all = put_none rtu_of _ _ _ _ c.in-Nothing.is in record { count = all.0; lent = all.1 }
+pub returns-in-None : goal.returns-in-None
+returns-in-None c = let all = put_none rtu_of _ _ _ _ c.in-None.is in record { count = all.0; lent = all.1 }
 
-pub returns-in-Data : goal.returns-in-Data
-returns-in-Data c = let all = put_unit rtu_of _ _ _ c.args.reply.now _ _ _ _ c.requires c.in-Data.is (c.put_rtu.ensures.count, c.put_rtu.ensures.lent) in record { count = all.0; lent = all.1 }
+pub returns-in-Some : goal.returns-in-Some
+returns-in-Some c = let all = put_unit rtu_of _ _ _ c.args.reply.now _ _ _ _ c.requires c.in-Some.is (c.put_rtu.ensures.count, c.put_rtu.ensures.lent) in record { count = all.0; lent = all.1 }

@@ -1,11 +1,10 @@
 -- `table::AdiNumber::row` meets its contract: rows 301 to 322 stand one after the other, each other arm is what the definition computes at its key, and a
 -- number that is no key is no row's label. Assumes nothing.
-use Rattle.std.proofs.Common.{arith}
+use Rattle.std.proofs.Common.{arith, Some}
 use mathlib.Core.Logic.{inl, inr}
 use Prim.Native.Nat.{◌-◌}
 use Rattle.table.specs.Table.{rows}
 use Rattle.table.specs.Find.{first_row, row_of_adi}
-use Rattle.table.specs.declared.labels.Found.TheVariants.{At}
 use Rattle.base.proofs.Arms.{at_key}
 use Rattle.table.proofs.Columns.{along}
 use Rattle.table.proofs.Lookup.{no_adi_outside}
@@ -14,7 +13,7 @@ use Rattle.table.proofs.labels.AdiNumber.row.Goals.{then-n-ge301+else-n-lt323, e
 
 pub returns-then-n-lt323 : goal.returns-then-n-lt323
 unfolding row_of_adi rows first_row
-returns-then-n-lt323 c = search (along (λ n. At (record { 0 = n - 301 })) row_of_adi 301 22)
+returns-then-n-lt323 c = search (along (λ n. Some (record { 0 = n - 301 })) row_of_adi 301 22)
 
 pub returns-in-34 : goal.returns-in-34
 unfolding row_of_adi rows first_row
