@@ -1,20 +1,23 @@
 -- A test of words in the place of a test of the numbers that they stand for. Assumes nothing.
 use mathlib.Core.Path.{◌≡◌, refl, sym, ap, ◌∙◌}
-use mathlib.Core.Bool.{Bool, true, false}
+use Rattle.std.proofs.Common.{◌||◌, nat_eq}
+use Rattle.std.specs.List.{list_any}
+use mathlib.Core.Bool.{Bool, true, false, false≢true}
 use mathlib.Core.List.{List, [], ◌∷◌, map}
 use Prim.Native.Nat.{ℕ, zero, suc, ◌+◌, ◌-◌, ◌%◌, ◌≤◌, ◌<◌}
 use native.Mathlib.Omega.{arith}
 use borrow.Author.Tests.{lt-ltb, le-ltb, le-leb, lt-leb, eq-eqb, ne_eqb, eqb-true, leb-true, ltb-true, ltb-false}
 use lib.Dec.{eqb, leb, ltb}
+use lib.ListN.{length}
 use lib.IntN.{ℤ, pos, negsuc, neg_ℤ}
 use lib.Signed.{le_z, lt_z}
-use Rattle.base.specs.Choice.{pick, both}
+use Rattle.base.specs.Choice.{pick, both, either}
 use Rattle.base.proofs.Tests.{same_test, both_false, both_out}
 use Rattle.allowed.specs.Words.{narrow, rank_of, listed}
 use Rattle.allowed.specs.Allowed.{twos, integer_of, eq_z, member, within, below_limt, above_magn, about, at_mode, setpoint_allows, allows, allowed_at}
 use Rattle.base.proofs.Arms.{NoneOf, up_from, past}
-use Rattle.table.specs.Table.{rows, line_at}
-use Rattle.table.specs.declared.lines.Allowed.TheVariants.{Between, OneOf, BelowLimt, AboveMagn, ByMode}
+use Rattle.table.specs.Table.{rows, line_at, these}
+use Rattle.table.specs.declared.lines.Allowed.TheVariants.{Between, BelowLimt, AboveMagn, ByMode}
 use Rattle.table.proofs.Columns.{from_inv_st}
 use Rattle.allowed.specs.declared.Bounds.{Bounds}
 
@@ -189,6 +192,18 @@ eq_words a b ha hb = go (ltb a 0x8000) (ltb b 0x8000) refl refl
         (λ e. eq-eqb (0x10000 - suc a) (0x10000 - suc b) (ap (λ (n : ℕ). 0x10000 - suc n) (eqb-true a b e)))
         (λ e. eq-eqb a b (omega (arith, eqb-true (0x10000 - suc a) (0x10000 - suc b) e)))
 
+-- a word is listed where one of the list is the same
+pub listed_any : (w : ℕ) (words : List ℕ) → listed w words ≡ list_any (λ (a : ℕ). nat_eq a w) words
+unfolding listed
+listed_any w [] = refl
+listed_any w (a ∷ rest) = go (eqb w a) (nat_eq a w) (same_test (eqb w a) (nat_eq a w) (λ e. eq-eqb a w (omega (arith, eqb-true w a e))) (λ e. eq-eqb w a (omega (arith, eqb-true a w e)))) (listed_any w rest)
+  where
+    go : (s t : Bool) → s ≡ t → listed w rest ≡ list_any (λ (b : ℕ). nat_eq b w) rest → either s (listed w rest) ≡ (t || list_any (λ (b : ℕ). nat_eq b w) rest)
+    go true true p q = refl
+    go false false p q = q
+    go true false p q = absurd (false≢true (sym p))
+    go false true p q = absurd (false≢true p)
+
 -- each is a 16-bit word
 abbrev pub short : List ℕ → Bool
 short [] = true
@@ -214,6 +229,28 @@ list_narrow w words h = go (ltb w 0x10000) refl
     go true q = same words h (ltb-true w 0x10000 q)
     go false q = none words h (ltb-false w 0x10000 q)
 
+-- a column in which one to four numbers stand, the last of them again where there are fewer, allows these numbers
+these_allow : (words : List ℕ) (by : Bounds) (v : ℤ) → leb (length words) 4 ≡ true → member v (map (twos 0x8000) words) ≡ allows (these (map (twos 0x8000) words)) by v
+unfolding member allows
+these_allow [] by v h = refl
+these_allow (a ∷ []) by v h = again (eq_z v (twos 0x8000 a))
+  where
+    again : (t : Bool) → either t false ≡ either t (either t (either t (either t false)))
+    again true = refl
+    again false = refl
+these_allow (a ∷ b ∷ []) by v h = ap (either (eq_z v (twos 0x8000 a))) (again (eq_z v (twos 0x8000 b)))
+  where
+    again : (t : Bool) → either t false ≡ either t (either t (either t false))
+    again true = refl
+    again false = refl
+these_allow (a ∷ b ∷ c ∷ []) by v h = ap (λ (t : Bool). either (eq_z v (twos 0x8000 a)) (either (eq_z v (twos 0x8000 b)) t)) (again (eq_z v (twos 0x8000 c)))
+  where
+    again : (t : Bool) → either t false ≡ either t (either t false)
+    again true = refl
+    again false = refl
+these_allow (a ∷ b ∷ c ∷ d ∷ []) by v h = refl
+these_allow (a ∷ b ∷ c ∷ d ∷ e ∷ more) by v h = absurd (omega (arith, leb-true (length (a ∷ b ∷ c ∷ d ∷ e ∷ more)) 4 h))
+
 -- ---- the rows: what the row's line says, and what the call for its rule told
 module _ (row k w : ℕ) (by : Bounds) (r : Bool) (at : row ≡ k) where
   by_rule : (line_at k).registers ≡ 1 → r ≡ narrow (allows (line_at k).allowed by) w → r ≡ allowed_at row by w
@@ -230,10 +267,11 @@ module _ (row k w : ℕ) (by : Bounds) (r : Bool) (at : row ≡ k) where
   unfolding allowed_at allows
   row_wide lo hi e two rule h = rw at (simp (two, rule) (e ∙ range_twos 0x80000000 lo hi w (ltb-true hi 0x80000000 h)))
 
-  pub row_list : (a b c d : ℕ) → r ≡ listed w (a ∷ b ∷ c ∷ d ∷ []) → (line_at k).registers ≡ 1
-      → (line_at k).allowed ≡ OneOf (twos 0x8000 a) (twos 0x8000 b) (twos 0x8000 c) (twos 0x8000 d) → short (a ∷ b ∷ c ∷ d ∷ []) ≡ true → r ≡ allowed_at row by w
-  unfolding allows
-  row_list a b c d e one rule h = by_rule one (e ∙ list_narrow w (a ∷ b ∷ c ∷ d ∷ []) h ∙ rw rule)
+  pub row_list : (words : List ℕ) → r ≡ listed w words → (line_at k).registers ≡ 1 → (line_at k).allowed ≡ these (map (twos 0x8000) words) → leb (length words) 4 ≡ true → short words ≡ true
+      → r ≡ allowed_at row by w
+  unfolding narrow
+  row_list words e one rule few h =
+      by_rule one (e ∙ list_narrow w words h ∙ rw rule (ap (λ (t : Bool). pick (ltb w 0x10000) t false) (these_allow words by (twos 0x8000 w) few)))
 
   pub row_about : (m : ℕ) → r ≡ narrow (about m) w → (line_at k).registers ≡ 1 → (line_at k).allowed ≡ Between (neg_ℤ (pos m)) (pos m) → r ≡ allowed_at row by w
   unfolding allows

@@ -11,29 +11,19 @@ pub(crate) const MINUS_1: u32 = 0xFFFF;
 pub(crate) fn between(lo: u32, hi: u32, word: u32) -> bool
     ensures { result ≡ both (leb lo word) (leb word hi) }
 {
-    if lo <= word {
-        return word <= hi;
-    }
-    false
+    (lo..=hi).contains(&word)
 }
 
-// One of up to four; the last stands again where there are fewer.
-pub(crate) fn one_of(a: u32, b: u32, c: u32, d: u32, word: u32) -> bool
-    ensures { result ≡ listed word (a ∷ b ∷ c ∷ d ∷ []) }
+// One of these words.
+#[tactic(auto, using(crate::proofs::Words::listed_any))]
+pub(crate) fn one_of(words: &[u32], word: u32) -> bool
+    ensures { result ≡ listed word words.now }
 {
-    if word == a {
-        return true;
-    }
-    if word == b {
-        return true;
-    }
-    if word == c {
-        return true;
-    }
-    word == d
+    words.contains(&word)
 }
 
 // Where a 16-bit row's word stands in the order of the numbers: two's complement, so 8000h comes first.
+#[tactic(auto, unfolding(crate::specs::Words::rank_of))]
 fn rank(word: u32) -> u32
     ensures { result ≡ rank_of word }
 {
@@ -41,49 +31,39 @@ fn rank(word: u32) -> u32
 }
 
 // −m..m
+#[tactic(auto, using(crate::proofs::Words::too_wide, crate::proofs::Words::about_is))]
 pub(crate) fn about_0(m: u32, word: u32) -> bool
     requires { m < 0x8000 }
     ensures { result ≡ narrow (about m) word }
 {
-    if 0x10000 <= word {
-        return false;
-    }
-    between(0x8000 - m, 0x8000 + m, rank(word))
+    word < 0x10000 && between(0x8000 - m, 0x8000 + m, rank(word))
 }
 
 // 0..I-limt−1
+#[tactic(auto, using(crate::proofs::Words::limt_below, crate::proofs::Words::limt_is))]
 pub(crate) fn below_limt(limt: u32, word: u32) -> bool
     ensures { result ≡ narrow (below_limt limt) word }
 {
-    if 0x8000 <= word {
-        return false;
-    }
-    rank(word) < rank(limt)
+    word < 0x8000 && rank(word) < rank(limt)
 }
 
 // I-magn+1..top
+#[tactic(auto, using(crate::proofs::Words::too_wide, crate::proofs::Words::magn_above, crate::proofs::Words::magn_below))]
 pub(crate) fn above_magn(magn: u32, top: u32, word: u32) -> bool
     requires { top < 0x8000 }
     ensures { result ≡ narrow (above_magn magn (pos top)) word }
 {
-    if 0x10000 <= word {
-        return false;
-    }
     let at = rank(word);
-    if rank(magn) < at {
-        return at <= 0x8000 + top;
-    }
-    false
+    word < 0x10000 && rank(magn) < at && at <= 0x8000 + top
 }
 
 // Setpoint: ±1500 at Mode 0 or 1, ±200 at 2, ±9000 at 3.
+#[tactic(auto, using(crate::proofs::Words::setpoint_at, crate::proofs::Words::setpoint_none), unfolding(crate::specs::Allowed::at_mode))]
 pub(crate) fn setpoint(mode: u32, word: u32) -> bool
     ensures { result ≡ narrow (setpoint_allows mode) word }
 {
-    let m = mode % 0x10000;
-    match m {
-        0 => about_0(1500, word),
-        1 => about_0(1500, word),
+    match mode % 0x10000 {
+        0 | 1 => about_0(1500, word),
         2 => about_0(200, word),
         3 => about_0(9000, word),
         _ => false,

@@ -35,7 +35,8 @@ pub struct Change {
     pub word: u32,
 }
 
-// What was done, or the reason why nothing was.
+// What was done, or the reason why nothing was: document 01's column of outcomes. It is one enum and no `Result<Deed, Reason>`: that was tried
+// and proved, and is no plainer. Each refusal was `Err(Reason::Refused(Refusal::NoRow))`, and `?`, which a `Result` is for, stands nowhere: document 01 asks for `let .. else`.
 #[derive(Clone, Copy)]
 pub enum Answer {
     // 0: the row told this word
@@ -50,12 +51,12 @@ pub enum Answer {
     Refused(Refusal),
 }
 
-impl Refusal {
-    // Document 01's number.
-    fn number(self) -> u32
-        ensures { result ≡ refusal_number self }
-    {
-        match self {
+// Document 01's number of a refusal.
+impl From<Refusal> for u32 {
+    ghost from_gives = { λ refusal number. number ≡ refusal_number refusal };
+
+    fn from(refusal: Refusal) -> u32 {
+        match refusal {
             Refusal::NoRow => 2,
             Refusal::ReadOnly => 3,
             Refusal::NotAllowed => 4,
@@ -69,16 +70,14 @@ impl Refusal {
 }
 
 impl Answer {
-    // Document 01's number.
+    // Document 01's number. It is a method and no `From`: `docs/PROMISES.md` names it, as it does `Outcome::number`, and a call says which number it is.
     pub fn number(self) -> u32
         ensures { result ≡ answer_number self }
     {
         match self {
-            Answer::Told(_, _) => 0,
-            Answer::Written(_) => 0,
-            Answer::Identified(_) => 0,
+            Answer::Told(_, _) | Answer::Written(_) | Answer::Identified(_) => 0,
             Answer::NotOurs => 1,
-            Answer::Refused(refusal) => refusal.number(),
+            Answer::Refused(refusal) => u32::from(refusal),
         }
     }
 }

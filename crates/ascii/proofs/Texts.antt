@@ -1,35 +1,36 @@
 -- What the code stores of a message: `:`, the pairs through the part of the text behind it, that of their LRC, CR LF. Assumes nothing.
-use Rattle.std.proofs.Common.{◌≡◌, ℕ, ◌+◌, ◌-◌, ◌*◌, ◌/◌, ◌%◌, ◌<◌, ◌≤◌, List, [], ◌∷◌, ◌++◌, length, get_or, set, sym, refl, ap, ◌∙◌, arith, length-append, length-set}
-use borrow.Rule.Slice.PartMut.{mid_of, put_mid, mid_len}
-use lib.Seq.{sets, length-sets}
+use Rattle.std.proofs.Common.{◌≡◌, ℕ, suc, ◌+◌, ◌-◌, ◌*◌, ◌/◌, ◌%◌, ◌<◌, ◌≤◌, List, [], ◌∷◌, ◌++◌, length, get_or, drop, set, sym, refl, ap, ◌∙◌, append_assoc, arith, length-append}
+use borrow.Rule.Slice.PartMut.{mid_of, put_mid}
+use lib.Seq.{sets}
 use Rattle.base.specs.Buffers.{front, fitting}
 use Rattle.base.proofs.Lists.{Folding, fold_starts, fold_again, fold_done}
-use Rattle.base.proofs.Sets.{headed, tailed, sets_front, fitting_all, fitting_none}
+use Rattle.base.proofs.Sets.{headed, sets_append, sets_front, fitting_all, fitting_none}
 use Rattle.hex_pairs.specs.Hex.{digit_of, hex_of}
 use Rattle.hex_pairs.proofs.RoundTrip.{length_hex, hex_append}
-use Rattle.hex_pairs.proofs.Laws.{Encoding, encode_again, encode_done}
+use Rattle.hex_pairs.proofs.Laws.{two_stores, none_left}
 use Rattle.checks.specs.Lrc.{add_byte, sum_of, lrc_after, lrc_of}
 use Rattle.ascii.specs.Ascii.{text_of, with_lrc}
 use Rattle.ascii.proofs.Message.{text_length}
 
 -- ---- the pairs: the digits of the bytes left, stored behind those passed, would give the whole, and so would the sum of the bytes left
-abbrev pub Putting : (bytes text₀ text : List ℕ) (sum i : ℕ) → Type 0
-Putting bytes text₀ text sum i = Encoding bytes text₀ (length bytes) text i × Folding add_byte 0 bytes sum i
+pub record Putting (bytes text₀ text : List ℕ) (sum i : ℕ) : Type 0 where
+  pub left : sets text (2 * i) (hex_of (drop i bytes)) ≡ sets text₀ 0 (hex_of bytes)
+  pub added : Folding add_byte 0 bytes sum i
 
-pub put_starts : (bytes text : List ℕ) → 2 * length bytes ≤ length text → Putting bytes text text 0 0
-put_starts bytes text h = (record { passed = omega arith; there = omega arith; fit = h; kept = refl; left = refl }, fold_starts add_byte 0 bytes)
+pub put_starts : (bytes text : List ℕ) → Putting bytes text text 0 0
+put_starts bytes text = record { left = refl; added = fold_starts add_byte 0 bytes }
 
 pub put_again : (bytes text₀ text : List ℕ) (sum i high low more : ℕ) → Putting bytes text₀ text sum i → i < length bytes → high ≡ digit_of (get_or bytes i 0 / 16)
     → low ≡ digit_of (get_or bytes i 0 % 16) → more ≡ add_byte sum (get_or bytes i 0) → Putting bytes text₀ (set (set text (2 * i) high) (2 * i + 1) low) more (i + 1)
 put_again bytes text₀ text sum i high low more p h e q s =
-    (encode_again bytes text₀ text (length bytes) i high low p.0 h e q, fold_again add_byte 0 bytes sum more i p.1 h s)
+    record { left = rw (e, q) (sym (two_stores bytes text i 0 h) ∙ p.left); added = fold_again add_byte 0 bytes sum more i p.added h s }
 
 pub pairs_put : (bytes text₀ text : List ℕ) (sum i : ℕ) → Putting bytes text₀ text sum i → length bytes ≤ i → text ≡ sets text₀ 0 (hex_of bytes)
-pairs_put bytes text₀ text sum i p h = encode_done bytes text₀ text (length bytes) i p.0 h (omega arith)
+pairs_put bytes text₀ text sum i p h = sym (none_left bytes text i h) ∙ p.left
 
 pub pairs_lrc : (bytes text₀ text : List ℕ) (sum i r : ℕ) → Putting bytes text₀ text sum i → length bytes ≤ i → r ≡ lrc_after sum → r ≡ lrc_of bytes
 unfolding lrc_of sum_of
-pairs_lrc bytes text₀ text sum i r p h e = e ∙ ap lrc_after (fold_done add_byte 0 bytes sum i p.1 h)
+pairs_lrc bytes text₀ text sum i r p h e = e ∙ ap lrc_after (fold_done add_byte 0 bytes sum i p.added h)
 
 -- ---- a text that is too short gets nothing
 long : (b : List ℕ) → length (text_of (with_lrc b)) ≡ 2 * length b + 5
@@ -46,69 +47,36 @@ module _ (b t : List ℕ) (short : (length t + 1) / 2 < length b + 3) where
   unfolding front
   short_lent = rw nothing
 
--- ---- stores keep a text's length
-kept_2 : (p : List ℕ) (i j x y : ℕ) → length (set (set p i x) j y) ≡ length p
-kept_2 p i j x y = length-set (set p i x) j y ∙ length-set p i x
+-- ---- four stores, one behind the other
+four : (l : List ℕ) (i x y z w : ℕ) → set (set (set (set l i x) (i + 1) y) (i + 2) z) (i + 3) w ≡ sets l i (x ∷ y ∷ z ∷ w ∷ [])
+four l i x y z w = λ j. set (set (set (set l i x) (one j) y) (two j) z) (three j) w
+  where
+    one : i + 1 ≡ suc i
+    one = omega arith
 
-kept_3 : (p : List ℕ) (i j k x y z : ℕ) → length (set (set (set p i x) j y) k z) ≡ length p
-kept_3 p i j k x y z = length-set (set (set p i x) j y) k z ∙ kept_2 p i j x y
+    two : i + 2 ≡ suc (suc i)
+    two = omega arith
 
-kept_4 : (p : List ℕ) (i j k m x y z w : ℕ) → length (set (set (set (set p i x) j y) k z) m w) ≡ length p
-kept_4 p i j k m x y z w = length-set (set (set (set p i x) j y) k z) m w ∙ kept_3 p i j k x y z
+    three : i + 3 ≡ suc (suc (suc i))
+    three = omega arith
 
--- the text t with c at its start, and l as its part behind that
-abbrev headed_by : (t l : List ℕ) (c : ℕ) → List ℕ
-headed_by t l c = put_mid 1 (length (set t 0 c) - 1) (set t 0 c) l
+-- ---- the text t is long enough: `:` was stored at its start, and its part behind that came back as l with the pairs
+module _ (b t l : List ℕ) (room : length b + 3 ≤ (length t + 1) / 2) where
+  whole : fitting (text_of (with_lrc b)) (length t) ≡ text_of (with_lrc b)
+  whole = fitting_all (text_of (with_lrc b)) (length t) (omega (arith, long b))
 
--- ---- the text t is long enough: c was stored at its start, and its part behind that
-module _ (b t : List ℕ) (c : ℕ) (room : length b + 3 ≤ (length t + 1) / 2) where
-  -- has room for the pairs,
-  pub pairs_fit : 2 * length b ≤ length (mid_of 1 (length (set t 0 c) - 1) (set t 0 c))
-  pairs_fit = omega (arith, mid_len 1 (length (set t 0 c)) (set t 0 c) (omega arith), length-set t 0 c)
+  pub text_count : 2 * length b + 1 + 4 ≡ length (fitting (text_of (with_lrc b)) (length t))
+  text_count = rw whole (omega (arith, long b))
 
-  -- and came back as l with them
-  module _ (l : List ℕ) (e : l ≡ sets (mid_of 1 (length (set t 0 c) - 1) (set t 0 c)) 0 (hex_of b)) where
-    pairs : headed_by t l c ≡ sets t 0 (c ∷ hex_of b)
-    pairs = headed t (hex_of b) l c (omega arith) e
-
-    kept : length (headed_by t l c) ≡ length t
-    kept = ap length pairs ∙ length-sets t 0 (c ∷ hex_of b)
-
-    -- behind the pairs, the digits x and y, then z and w
-    pub high_within : 2 * length b + 1 < length (headed_by t l c)
-    high_within = omega (arith, kept)
-
-    pub low_within : (x : ℕ) → 2 * length b + 1 + 1 < length (set (headed_by t l c) (2 * length b + 1) x)
-    low_within x = omega (arith, kept, length-set (headed_by t l c) (2 * length b + 1) x)
-
-    pub cr_within : (x y : ℕ) → 2 * length b + 1 + 2 < length (set (set (headed_by t l c) (2 * length b + 1) x) (2 * length b + 1 + 1) y)
-    cr_within x y = omega (arith, kept, kept_2 (headed_by t l c) (2 * length b + 1) (2 * length b + 1 + 1) x y)
-
-    pub lf_within : (x y z : ℕ)
-        → 2 * length b + 1 + 2 + 1 < length (set (set (set (headed_by t l c) (2 * length b + 1) x) (2 * length b + 1 + 1) y) (2 * length b + 1 + 2) z)
-    lf_within x y z = omega (arith, kept, kept_3 (headed_by t l c) (2 * length b + 1) (2 * length b + 1 + 1) (2 * length b + 1 + 2) x y z)
-
-    pub text_kept : (x y z w : ℕ)
-        → length (set (set (set (set (headed_by t l c) (2 * length b + 1) x) (2 * length b + 1 + 1) y) (2 * length b + 1 + 2) z) (2 * length b + 1 + 2 + 1) w) ≡ length t
-    text_kept x y z w = kept_4 (headed_by t l c) (2 * length b + 1) (2 * length b + 1 + 1) (2 * length b + 1 + 2) (2 * length b + 1 + 2 + 1) x y z w ∙ kept
-
-    whole : fitting (text_of (with_lrc b)) (length t) ≡ text_of (with_lrc b)
-    whole = fitting_all (text_of (with_lrc b)) (length t) (omega (arith, long b))
-
-    pub text_count : 2 * length b + 1 + 2 + 2 ≡ length (fitting (text_of (with_lrc b)) (length t))
-    text_count = rw whole (omega (arith, long b))
-
-    -- the five are `:`, the digits of the LRC, CR and LF
-    pub text_lent : (r x y z w : ℕ) → c ≡ 0x3A → r ≡ lrc_of b → x ≡ digit_of (r / 16) → y ≡ digit_of (r % 16) → z ≡ 0x0D → w ≡ 0x0A
-        → set (set (set (set (headed_by t l c) (2 * length b + 1) x) (2 * length b + 1 + 1) y) (2 * length b + 1 + 2) z) (2 * length b + 1 + 2 + 1) w
-        ≡ front (fitting (text_of (with_lrc b)) (length t)) t
-    unfolding text_of hex_of
-    text_lent r x y z w colon is high low cr lf =
-        let digits : set (set (headed_by t l c) (2 * length b + 1) x) (2 * length b + 1 + 1) y ≡ sets t 0 ((c ∷ hex_of b) ++ x ∷ y ∷ []) =
-        tailed t (c ∷ hex_of b) (headed_by t l c) (2 * length b + 1) x y pairs (omega (arith, length_hex b)) in
-        rw whole
-        (tailed t ((c ∷ hex_of b) ++ x ∷ y ∷ []) (set (set (headed_by t l c) (2 * length b + 1) x) (2 * length b + 1 + 1) y) (2 * length b + 1 + 2) z w digits
-        (omega (arith, length_hex b, length-append (c ∷ hex_of b) (x ∷ y ∷ [])))
-        ∙ (λ i. sets t 0 (colon i ∷ (hex_of b ++ (high ∙ ap (λ (n : ℕ). digit_of (n / 16)) is) i ∷ (low ∙ ap (λ (n : ℕ). digit_of (n % 16)) is) i ∷ []) ++ cr i ∷ lf i ∷ []))
-        ∙ ap (λ (s : List ℕ). sets t 0 (0x3A ∷ s ++ 0x0D ∷ 0x0A ∷ [])) (sym (hex_append b (lrc_of b ∷ [])))
-        ∙ sets_front (text_of (with_lrc b)) t (omega (arith, long b)))
+  -- behind the pairs, the digits of the LRC, CR and LF were stored
+  pub text_lent : (r x y : ℕ) → l ≡ sets (mid_of 1 (length (set t 0 0x3A) - 1) (set t 0 0x3A)) 0 (hex_of b) → r ≡ lrc_of b → x ≡ digit_of (r / 16) → y ≡ digit_of (r % 16)
+      → set (set (set (set (put_mid 1 (length (set t 0 0x3A) - 1) (set t 0 0x3A) l) (2 * length b + 1) x) (2 * length b + 1 + 1) y) (2 * length b + 1 + 2) 0x0D) (2 * length b + 1 + 3) 0x0A
+      ≡ front (fitting (text_of (with_lrc b)) (length t)) t
+  unfolding text_of hex_of
+  text_lent r x y e is high low =
+      let pairs : put_mid 1 (length (set t 0 0x3A) - 1) (set t 0 0x3A) l ≡ sets t 0 (0x3A ∷ hex_of b) = headed t (hex_of b) l 0x3A (omega arith) e in
+      let at : 2 * length b + 1 ≡ 0 + length (0x3A ∷ hex_of b) = omega (arith, length_hex b) in
+      rw (whole, pairs, four (sets t 0 (0x3A ∷ hex_of b)) (2 * length b + 1) x y 0x0D 0x0A, at, high, low, is)
+      (sym (sets_append (0x3A ∷ hex_of b) (hex_of (lrc_of b ∷ []) ++ 0x0D ∷ 0x0A ∷ []) t 0)
+      ∙ ap (λ (s : List ℕ). sets t 0 (0x3A ∷ s)) (sym (append_assoc (hex_of b) (hex_of (lrc_of b ∷ [])) (0x0D ∷ 0x0A ∷ [])) ∙ ap (λ (s : List ℕ). s ++ 0x0D ∷ 0x0A ∷ []) (sym (hex_append b (lrc_of b ∷ []))))
+      ∙ sets_front (text_of (with_lrc b)) t (omega (arith, long b)))

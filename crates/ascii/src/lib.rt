@@ -15,19 +15,18 @@ use base::ASCII_REPLY;
 use identity::Identity;
 use modbus::{Answer, put_body};
 
-// Puts each byte as two digits at the start of `text`, which has room for them, and tells their LRC.
+// Puts each byte as two digits at the start of `text`, which has room for them, and tells their LRC. `text` is written by place: of the pairs that
+// `chunks_exact_mut` lends, a proof knows afterwards how many there were and not what they hold.
 fn put_pairs(bytes: &[u8], text: &mut [u8]) -> u8
     requires { 2 * length bytes.now ≤ length text.old }
     ensures lrc { result ≡ lrc_of bytes.now }
     ensures lent { text.new ≡ sets text.old 0 (hex_of bytes.now) }
 {
     let mut sum: u8 = 0;
-    let mut i: usize = 0;
-    while i < bytes.len() {
-        text[2 * i] = hex_pairs::digit_of(bytes[i] / 16);
-        text[2 * i + 1] = hex_pairs::digit_of(bytes[i] % 16);
-        sum = std::num::wrapping_add_u8(sum, bytes[i]);
-        i += 1;
+    for (i, &byte) in bytes.iter().enumerate() {
+        text[2 * i] = hex_pairs::digit_of(byte / 16);
+        text[2 * i + 1] = hex_pairs::digit_of(byte % 16);
+        sum = sum.wrapping_add(byte);
     }
     checks::lrc(sum)
 }
@@ -36,7 +35,9 @@ fn put_pairs(bytes: &[u8], text: &mut [u8]) -> u8
 // the length is 0.
 //
 // message:  `:`  the bytes' pairs  the LRC's pair  CR LF
-// place:    0    1                 end             last
+// place:    0    1                 end             end + 2
+//
+// The last four are stored one by one: copied from an array they cost 9 instructions a message more.
 pub fn put_text(bytes: &[u8], text: &mut [u8]) -> usize
     ensures count { result ≡ length (fitting (text_of (with_lrc bytes.now)) (length text.old)) }
     ensures lent { text.new ≡ front (fitting (text_of (with_lrc bytes.now)) (length text.old)) text.old }
@@ -49,10 +50,9 @@ pub fn put_text(bytes: &[u8], text: &mut [u8]) -> usize
     let end = 2 * bytes.len() + 1;
     text[end] = hex_pairs::digit_of(lrc / 16);
     text[end + 1] = hex_pairs::digit_of(lrc % 16);
-    let last = end + 2;
-    text[last] = 13;
-    text[last + 1] = 10;
-    last + 2
+    text[end + 2] = b'\r';
+    text[end + 3] = b'\n';
+    end + 4
 }
 
 // Puts the reply's message at the start of `reply` and tells its length. A buffer under 513 bytes is left as it is, and the length is 0.
@@ -65,5 +65,5 @@ pub fn put_ascii(address: u8, answer: Answer, identity: &Identity, reply: &mut [
     }
     let mut bytes = [0u8; 80];
     let end = put_body(address, answer, identity, &mut bytes);
-    put_text(&bytes[0..end], reply)
+    put_text(&bytes[..end], reply)
 }

@@ -1,4 +1,4 @@
-// Modbus ASCII on the card's port: `receive` reads a scrap, serves the first message taken and replies to it. The card's parts are lent where they lie.
+// Modbus ASCII on the card's port: `receive` reads a scrap, serves the first message taken and replies to it. The card's parts are lent where they lie, as C lends them.
 #![tactic(auto)]
 
 ghost use Rattle.std.specs.Prelude.{◌≡◌, ◌≤◌, length};
@@ -20,7 +20,8 @@ use port::Numbers;
 use turn::{Turned, after_message, nothing_taken, short_buffer};
 
 // Reads bytes as Modbus ASCII, serves the first message taken, and puts its reply at the start of `reply`, which has 513 bytes at least.
-// The caller hands the unused rest again first.
+// The caller hands the unused rest again first. The parts of the card are lent one by one, here and below, as C lends them (`card_receive_ascii_in`).
+#[tactic(auto, using(crate::proofs::Laws::short_turn, crate::proofs::Laws::short_lent))]
 pub fn receive(
     held: &mut [u8; 512],
     len: usize,
@@ -44,6 +45,7 @@ pub fn receive(
 }
 
 // A message is taken: its bytes are read from the text that is held.
+#[tactic(auto, using(crate::proofs::Laws::within, crate::proofs::Laws::decoded, crate::proofs::Laws::takes_turn, crate::proofs::Laws::takes_lent))]
 fn take(
     held: &[u8; 512],
     port: &mut Numbers,
@@ -58,10 +60,11 @@ fn take(
 {
     let mut message = [0u8; 256];
     let n = ascii_scan::message_bytes(held, scan.len, &mut message);
-    answer(held, port, plant, identity, scan, &message[0..n], reply)
+    answer(held, port, plant, identity, scan, &message[..n], reply)
 }
 
 // The data unit of a message's bytes is served and replied to.
+#[tactic(auto, using(crate::proofs::Laws::answers_lent))]
 fn answer(
     held: &[u8; 512],
     port: &mut Numbers,
@@ -78,19 +81,19 @@ fn answer(
     let address = modbus_words::byte_at(message, 0);
     let unit = ascii_scan::unit_among(message);
     let exchange = modbus_service::serve(plant, port, address, unit);
-    let answer = exchange.answer;
-    let said = exchange.reply;
-    after_message(port, answer);
-    let len = put(address, said, identity, reply);
+    after_message(port, exchange.answer);
+    let len = put(address, exchange.reply, identity, reply);
     Turned {
         pending: 0,
-        outcome: Outcome::Served(answer),
+        outcome: Outcome::Served(exchange.answer),
         used: scan.used,
         len,
     }
 }
 
-// Puts the reply's text, where there is a reply.
+// Puts the reply's text, where there is a reply. The `put` of rtu_port differs in the writer alone: one function for both would take it as a closure, and
+// say of the closure all that the two say of `put_ascii` and of `put_rtu`, so it is no plainer.
+#[tactic(auto, using(base::proofs::Sets::front_none, modbus::proofs::Buffers::reply_all))]
 fn put(address: u8, said: Option<Answer>, identity: &Identity, reply: &mut [u8]) -> usize
     requires { ascii_least ≤ length reply.old }
     ensures count { result ≡ length (reply_text identity.now address said) }

@@ -2,6 +2,7 @@ pub mod Summed
 pub mod Turns
 pub mod Running
 pub mod Decoded
+pub mod Chained
 pub mod Beginning
 pub mod Follows
 pub mod Parsed

@@ -1,44 +1,45 @@
 -- What the code's tests and calls show of one byte, and of what is pending after it. Assumes nothing.
-use Rattle.std.proofs.Common.{◌≡◌, ℕ, ◌+◌, ◌-◌, ◌/◌, ◌%◌, ◌<◌, ◌≤◌, min, Bool, true, false, eqb, List, length, get_or, take, drop, sym, refl, ap, ◌∙◌, subst, add-zero, arith, length-drop, length-take, take_all, drop-drop, eq-eqb, ne_eqb, Option, Some, None}
-use Rattle.base.specs.Choice.{pick, both}
-use Rattle.hex_pairs.specs.Hex.{is_hex, digit_value, digit_of, capital_of}
-use Rattle.hex_pairs.proofs.RoundTrip.{is_value, hex_is_value, value_hex, cr_not_hex}
+use Rattle.std.proofs.Common.{◌≡◌, ℕ, ◌+◌, ◌-◌, ◌<◌, ◌≤◌, Bool, true, false, eqb, List, length, get_or, take, drop, sym, refl, ap, ◌∙◌, subst, add-zero, arith, length-drop, length-take, take_all, drop-drop, drop_of_length-le, eq-eqb, ne_eqb}
+use Rattle.base.specs.Choice.{pick, both, either}
+use Rattle.std.specs.Char.{is_ascii_hexdigit}
+use Rattle.std.proofs.Common.{◌&&◌, ◌||◌, leb}
+use Rattle.hex_pairs.specs.Hex.{is_hex}
+use Rattle.hex_pairs.proofs.RoundTrip.{cr_not_hex}
 use Rattle.checks.specs.Lrc.{lrc_of}
 use Rattle.pending.specs.declared.Pending.{Pending}
 use Rattle.pending.specs.Held.{held, emptied, pushed, began_with}
 use Rattle.pending.specs.Scanning.{Scan, scan_from, scan_on}
-use Rattle.pending.proofs.Scans.{Scanning, scan_turn, scan_after}
+use Rattle.pending.proofs.Scans.{scan_turn, scan_after}
 use Rattle.ascii.specs.Ascii.{bytes_in}
 use Rattle.ascii_scan.specs.Scan.{ended, digit_fits, cr_fits, goes_on, again, ends, fed, feeding}
 use Rattle.ascii_scan.proofs.Summed.{cr_under}
 
--- ---- a hex digit
-module _ (b : ℕ) (d : Option ℕ) (q : d ≡ digit_value b) where
-  pub is_digit : (n : ℕ) → d ≡ Some n → true ≡ is_hex b
-  is_digit n e = sym (value_hex b n (sym q ∙ e))
+-- ---- the library's test of a digit is the definition's
+joins : (a b c d e f : Bool) → ((a && b || c && d) || e && f) ≡ either (both a b) (either (both c d) (both e f))
+joins true true c d e f = refl
+joins true false true true e f = refl
+joins true false true false true true = refl
+joins true false true false true false = refl
+joins true false true false false f = refl
+joins true false false d true true = refl
+joins true false false d true false = refl
+joins true false false d false f = refl
+joins false b true true e f = refl
+joins false b true false true true = refl
+joins false b true false true false = refl
+joins false b true false false f = refl
+joins false b false d true true = refl
+joins false b false d true false = refl
+joins false b false d false f = refl
 
-  pub no_digit : d ≡ None → false ≡ is_hex b
-  no_digit e = sym (hex_is_value b ∙ ap is_value (sym q ∙ e))
+pub digit_told : (b : ℕ) → is_ascii_hexdigit b ≡ is_hex b
+unfolding is_hex
+digit_told b = joins (leb 0x30 b) (leb b 0x39) (leb 0x41 b) (leb b 0x46) (leb 0x61 b) (leb b 0x66)
 
--- ---- the last byte pending
-module _ (l : List ℕ) (n : ℕ) where
-  pub ended_none : n ≡ 0 → false ≡ ended (record { bytes = l; len = n })
-  unfolding ended
-  ended_none h = simp (eq-eqb n 0 h)
-
-  pub ended_last : (k : ℕ) → (n ≡ 0 → ⊥) → k ≡ min n 512 → eqb (get_or l (k - 1) 0) 0x0D ≡ ended (record { bytes = l; len = n })
-  unfolding ended
-  ended_last k h e = simp (ne_eqb n 0 h, e)
-
--- ---- the digits of the LRC: c is b in capitals
-module _ (n lrc l b c d : ℕ) (e : l ≡ lrc) (k : c ≡ capital_of b) where
-  pub digit_high : n ≡ 509 → d ≡ digit_of (l / 16) → eqb c d ≡ digit_fits n lrc b
-  unfolding digit_fits
-  digit_high h q = simp (h, q, e, k)
-
-  pub digit_low : n ≡ 510 → d ≡ digit_of (l % 16) → eqb c d ≡ digit_fits n lrc b
-  unfolding digit_fits
-  digit_low h q = simp (h, q, e, k)
+-- ---- nothing pending is not ended
+pub ended_none : (l : List ℕ) (n : ℕ) → n ≡ 0 → false ≡ ended (record { bytes = l; len = n })
+unfolding ended
+ended_none l n h = simp (eq-eqb n 0 h)
 
 -- ---- whether b goes on, by the code's tests: CR is no digit
 module _ (l : List ℕ) (n b : ℕ) (r : Bool) where
@@ -46,13 +47,13 @@ module _ (l : List ℕ) (n b : ℕ) (r : Bool) where
   unfolding goes_on held
   goes_cr h e = simp (h, cr_not_hex, e)
 
-  pub goes_digit : (t : Bool) → t ≡ is_hex b → t ≡ true → r ≡ digit_fits n (lrc_of (bytes_in (take n l))) b → r ≡ goes_on (record { bytes = l; len = n }) b
+  pub goes_digit : (t : Bool) → t ≡ is_ascii_hexdigit b → t ≡ true → r ≡ digit_fits n (lrc_of (bytes_in (take n l))) b → r ≡ goes_on (record { bytes = l; len = n }) b
   unfolding goes_on held
-  goes_digit t e h k = simp (← e, h, k)
+  goes_digit t e h k = simp (sym (digit_told b) ∙ sym e ∙ h, k)
 
-pub goes_none : (l : List ℕ) (n b : ℕ) (t : Bool) → (b ≡ 0x0D → ⊥) → t ≡ is_hex b → t ≡ false → false ≡ goes_on (record { bytes = l; len = n }) b
+pub goes_none : (l : List ℕ) (n b : ℕ) (t : Bool) → (b ≡ 0x0D → ⊥) → t ≡ is_ascii_hexdigit b → t ≡ false → false ≡ goes_on (record { bytes = l; len = n }) b
 unfolding goes_on
-goes_none l n b t c e h = simp (← e, h, ne_eqb b 0x0D c)
+goes_none l n b t c e h = simp (sym (digit_told b) ∙ sym e ∙ h, ne_eqb b 0x0D c)
 
 -- ---- what is pending after a byte, by the tests
 -- a new beginning does not depend on how many bytes were pending
@@ -100,14 +101,6 @@ module _ (p q : Pending) (b : ℕ) (t : Bool) (e : t ≡ ended p) where
       pub open_next : q ≡ pick g (pushed p b) (again (over p) b) → q ≡ fed p b
       unfolding fed
       open_next k = simp (← e, h, ← f, k, again_over)
-
--- ---- `feed`
-module _ (p q : Pending) (b : ℕ) (g : Bool) (f : g ≡ goes_on p b) where
-  pub feed_keeps : g ≡ true → q ≡ pushed p b → q ≡ pick (goes_on p b) (pushed p b) (again (over p) b)
-  feed_keeps l k = simp (← f, l) k
-
-  pub feed_spoils : g ≡ false → q ≡ again (over p) b → q ≡ pick (goes_on p b) (pushed p b) (again (over p) b)
-  feed_spoils l k = simp (← f, l) k
 
 -- behind nothing no byte goes on
 fresh_goes : (n lrc b : ℕ) (bytes : List ℕ) (s t : Bool) → n ≡ 0 → false ≡ pick s (digit_fits n lrc b) (both t (cr_fits n bytes))
@@ -186,11 +179,20 @@ module _ (s : List ℕ) (p q : Pending) (i r k : ℕ)
       let b : ℕ = get_or s (i + r) 0 in
       next_same s q x (i + r) (behind_within s i r k w l n) (open_ends q x b (ended q) refl o) (open_next q x b (ended q) refl o (goes_on q b) refl a) ∙ run_same
 
--- ---- `scan`: by what a step tells, the bytes to place u and whether a message has ended
-module _ (s : List ℕ) (p₀ p q : Pending) (i u : ℕ) (t : Bool) (inv : Scanning feeding p₀ s p i)
-    (same : scan_on feeding (record { pending = q; used = u; taken = t }) (drop u s) ≡ scan_from feeding p i (drop i s)) where
-  pub step_takes : t ≡ true → record { pending = q; used = u; taken = t } ≡ scan_from feeding p₀ 0 s
-  step_takes e = subst (λ (t : Bool). scan_on feeding (record { pending = q; used = u; taken = t }) (drop u s) ≡ scan_from feeding p i (drop i s) → record { pending = q; used = u; taken = t } ≡ scan_from feeding p₀ 0 s) (sym e) (λ k. k ∙ inv.1) same
+-- ---- `scan`: what is told so far, of the bytes s from p₀ on, gives the whole with those that are left
+pub record Scanning (p₀ : Pending) (s : List ℕ) (x : Scan) : Type 0 where
+  pub within : x.used ≤ length s
+  pub same : scan_on feeding x (drop x.used s) ≡ scan_from feeding p₀ 0 s
 
-  pub step_again : u ≤ length s → t ≡ false → Scanning feeding p₀ s q u
-  step_again w e = (w, subst (λ (t : Bool). scan_on feeding (record { pending = q; used = u; taken = t }) (drop u s) ≡ scan_from feeding p i (drop i s)) e same ∙ inv.1)
+-- a step from there tells more
+pub step_again : (s : List ℕ) (p₀ p : Pending) (u : ℕ) (t : Bool) (x : Scan) → t ≡ false → Scanning p₀ s (record { pending = p; used = u; taken = t }) → x.used ≤ length s
+    → scan_on feeding x (drop x.used s) ≡ scan_from feeding p u (drop u s) → Scanning p₀ s x
+step_again s p₀ p u t x e inv w same =
+    record { within = w; same = same ∙ (subst (λ (t : Bool). scan_on feeding (record { pending = p; used = u; taken = t }) (drop u s) ≡ scan_from feeding p₀ 0 s) e inv.same) }
+
+-- no byte is left
+pub scan_ended : (s : List ℕ) (p₀ p : Pending) (u : ℕ) (t : Bool) → t ≡ false → length s ≤ u → Scanning p₀ s (record { pending = p; used = u; taken = t })
+    → record { pending = p; used = u; taken = t } ≡ scan_from feeding p₀ 0 s
+unfolding scan_from
+scan_ended s p₀ p u true e h inv = inv.same
+scan_ended s p₀ p u false e h inv = sym (ap (scan_from feeding p u) (drop_of_length-le s h)) ∙ inv.same

@@ -1,7 +1,6 @@
 // Scanning a scrap for the first message.
-ghost use Rattle.std.specs.Prelude.{◌≡◌, ◌<◌, ◌≤◌, min, false, length, drop};
+ghost use Rattle.std.specs.Prelude.{◌≡◌, ◌<◌, ◌≤◌, false, length, drop};
 ghost use Rattle.base.specs.Choice.{pick};
-ghost use Rattle.hex_pairs.specs.Hex.{is_hex};
 ghost use Rattle.pending.specs.Held.{pushed};
 ghost use Rattle.pending.specs.Scanning.{scan_from, scan_on, scan_in};
 ghost use Rattle.ascii_scan.specs.Scan.{ended, goes_on, again, feeding};
@@ -14,29 +13,25 @@ use pending::{Scanned, begin_with, push};
 // `held`, and stay there.
 //
 // What is pending is taken for a beginning: of its bytes only the last is looked at again; at CR and from the 509th digit on, the digits are summed.
-// Bits that are no beginning are taken for one too, by their count and those bytes. The LF of a message is not held.
+// Bits that are no beginning are taken for one too, by their count and those bytes. The LF of a message is not held. It is no `for`: a step takes a run of bytes.
+#[tactic(auto, using(crate::proofs::Turns::step_again, crate::proofs::Turns::scan_ended))]
 pub fn scan(held: &mut [u8; 512], len: usize, bytes: &[u8]) -> Scanned
     ensures { scan_in held.new result ≡ scan_from feeding (record { bytes = held.old; len = len }) 0 bytes.now }
 {
-    let mut n = len;
-    let mut i: usize = 0;
-    while i < bytes.len() {
-        let s = step(held, n, bytes, i);
-        if s.taken {
-            return s;
-        }
-        n = s.len;
-        i = s.used;
-    }
-    Scanned {
-        len: n,
-        used: bytes.len(),
+    let mut so_far = Scanned {
+        len,
+        used: 0,
         taken: false,
+    };
+    while !so_far.taken && so_far.used < bytes.len() {
+        so_far = step(held, so_far.len, bytes, so_far.used);
     }
+    so_far
 }
 
 // The bytes from place `i` on, as far as one look at what is pending goes: behind nothing only `:` begins, behind CR only LF ends a message. Scanning
 // goes on behind these bytes as it would have from `i` on.
+#[tactic(auto, using(crate::proofs::Turns::fresh_same, crate::proofs::Turns::lf_same, crate::proofs::Turns::other_same, crate::proofs::Turns::open_told))]
 fn step(held: &mut [u8; 512], n: usize, bytes: &[u8], i: usize) -> Scanned
     requires { i < length bytes.now }
     ensures onward { i < result.used }
@@ -44,21 +39,15 @@ fn step(held: &mut [u8; 512], n: usize, bytes: &[u8], i: usize) -> Scanned
     ensures same { scan_on feeding (scan_in held.new result) (drop result.used bytes.now)
         ≡ scan_from feeding (record { bytes = held.old; len = n }) i (drop i bytes.now) }
 {
-    if n == 0 {
+    let cr = ended(held, n);
+    if cr && bytes[i] == b'\n' {
         return Scanned {
-            len: begin(held, bytes[i]),
+            len: n,
             used: i + 1,
-            taken: false,
+            taken: true,
         };
     }
-    if ended(held, n) {
-        if bytes[i] == 0x0A {
-            return Scanned {
-                len: n,
-                used: i + 1,
-                taken: true,
-            };
-        }
+    if cr || n == 0 {
         return Scanned {
             len: begin(held, bytes[i]),
             used: i + 1,
@@ -68,7 +57,9 @@ fn step(held: &mut [u8; 512], n: usize, bytes: &[u8], i: usize) -> Scanned
     go_on(held, n, bytes, i)
 }
 
-// The digits from place `i` on that go on freely, and the byte behind them, where CR has not come.
+// The digits from place `i` on that go on freely, and the byte behind them, where CR has not come. (A `match` on `bytes.get(at)` takes 12 instructions a
+// message more.)
+#[tactic(auto, using(crate::proofs::Turns::behind_within, crate::proofs::Turns::run_same, crate::proofs::Turns::behind_same))]
 fn go_on(held: &mut [u8; 512], n: usize, bytes: &[u8], i: usize) -> Scanned
     requires le_n { 1 ≤ n }
     requires n_value { ended (record { bytes = held.old; len = n }) ≡ false }
@@ -95,6 +86,7 @@ fn go_on(held: &mut [u8; 512], n: usize, bytes: &[u8], i: usize) -> Scanned
 }
 
 // One byte, where the first `n` of `held` are pending and CR has not come.
+#[tactic(auto, using(base::proofs::Tests::tests))]
 fn feed(held: &mut [u8; 512], n: usize, b: u8) -> usize
     ensures { record { bytes = held.new; len = result }
         ≡ pick (goes_on (record { bytes = held.old; len = n }) b)
@@ -102,57 +94,36 @@ fn feed(held: &mut [u8; 512], n: usize, b: u8) -> usize
         (again (record { bytes = held.old; len = 0 }) b) }
 {
     if goes_on(held, n, b) {
-        return push(held, n, b);
+        push(held, n, b)
+    } else {
+        begin(held, b)
     }
-    begin(held, b)
 }
 
 // A byte that spoils what is pending is looked at again, as a beginning of its own.
+#[tactic(auto, using(base::proofs::Tests::tests), unfolding(crate::specs::Scan::again, pending::specs::Held::emptied, pending::specs::Held::began_with))]
 fn begin(held: &mut [u8; 512], b: u8) -> usize
     ensures { record { bytes = held.new; len = result } ≡ again (record { bytes = held.old; len = 0 }) b }
 {
-    if b == b':' {
-        return begin_with(held, b);
-    }
-    0
+    if b == b':' { begin_with(held, b) } else { 0 }
 }
 
 // Whether the last byte pending is CR.
+#[tactic(auto, using(base::proofs::Tests::tests), unfolding(crate::specs::Scan::ended))]
 fn ended(held: &[u8; 512], n: usize) -> bool
     ensures { result ≡ ended (record { bytes = held.now; len = n }) }
 {
-    if n == 0 {
-        return false;
-    }
-    held[count_held(n) - 1] == 0x0D
-}
-
-// How many bytes are held where `n` is told.
-pub(crate) fn count_held(n: usize) -> usize
-    ensures { result ≡ min n 512 }
-{
-    if n < 512 { n } else { 512 }
+    n != 0 && held[n.min(512) - 1] == b'\r'
 }
 
 // Whether `b` goes on, where CR has not come.
+#[tactic(auto, using(crate::proofs::Turns::goes_cr, crate::proofs::Turns::goes_digit, crate::proofs::Turns::goes_none))]
 fn goes_on(held: &[u8; 512], n: usize, b: u8) -> bool
     ensures { result ≡ goes_on (record { bytes = held.now; len = n }) b }
 {
-    if b == 0x0D {
-        return cr_fits(held, n);
+    if b == b'\r' {
+        cr_fits(held, n)
+    } else {
+        b.is_ascii_hexdigit() && digit_fits(held, n, b)
     }
-    if is_hex(b) {
-        return digit_fits(held, n, b);
-    }
-    false
-}
-
-// 0-9, A-F or a-f
-fn is_hex(b: u8) -> bool
-    ensures { result ≡ is_hex b }
-{
-    let Some(_) = hex_pairs::digit_value(b) else {
-        return false;
-    };
-    true
 }

@@ -1,75 +1,54 @@
 // Each command is done on the card of the bench or by its master, and its answer printed to `to`.
+// Where an answer ends stands beside its buffer, as `put` and the other public routines of `bench_lines` take it and hand it back (their clause `end`).
 use crate::command::{Command, Event};
 use crate::{command, state};
-use card::{After, Card, Protocol};
+use card::{After, Card, Outcome, Protocol};
 use drive::Measured;
-use identity::{BLANK, Identity, LENGTH};
+use identity::BLANK;
 use std::io;
 use std::io::Write;
 
 // The answer to what is no command.
-pub(crate) fn unknown<W: Write>(to: &mut W) -> io::Result<()> {
-    let mut out = [0u8; 2];
-    let n = bench_lines::put(&mut out, 0, b'?');
-    bench_lines::end(to, &mut out, n)
+fn unknown<W: Write>(to: &mut W) -> io::Result<()> {
+    to.write_all(b"?\n")
 }
 
 // `OUTCOME`
 fn outcome<W: Write>(to: &mut W, number: u32) -> io::Result<()> {
     let mut out = [0u8; 2048];
-    let n = bench_lines::unsigned(&mut out, 0, number as u64);
+    let n = bench_lines::unsigned(&mut out, 0, u64::from(number));
     bench_lines::end(to, &mut out, n)
 }
 
 // `OUTCOME REPLY`
 fn reply_line<W: Write>(to: &mut W, number: u32, reply: &[u8]) -> io::Result<()> {
     let mut out = [0u8; 2048];
-    let n = bench_lines::unsigned(&mut out, 0, number as u64);
+    let n = bench_lines::unsigned(&mut out, 0, u64::from(number));
     let m = bench_lines::put(&mut out, n, b' ');
     let l = bench_lines::bytes(&mut out, m, reply);
     bench_lines::end(to, &mut out, l)
 }
 
-#[derive(Clone, Copy)]
-struct Given {
-    card: Card,
-    used: usize,
-}
-
-// One call of `bytes HEX`, with its answer where a message was taken.
-fn give<W: Write>(to: &mut W, card: Card, scrap: &[u8]) -> io::Result<Given> {
+// One call of `bytes HEX`, with its answer where a message was taken. Tells how many bytes were used.
+fn give<W: Write>(to: &mut W, card: &mut Card, scrap: &[u8]) -> io::Result<usize> {
     let mut buffer = [0u8; 600];
-    let turn = receive::receive(card, scrap, &mut buffer);
-    let result = turn.outcome;
-    let number = result.number();
-    if number != 15 {
-        reply_line(to, number, bench_words::first(&buffer, turn.len))?;
+    let turn = receive::receive_on(card, scrap, &mut buffer);
+    if !matches!(turn.outcome, Outcome::NothingTaken) {
+        reply_line(to, turn.outcome.number(), &buffer[..turn.len])?;
     }
-    let next = turn.card;
-    Ok(Given {
-        card: next,
-        used: turn.used,
-    })
+    Ok(turn.used)
 }
 
 // `bytes HEX`: a call with the whole scrap, then with the unused rest, until no byte is left. One that used no byte would be the last.
-fn bytes<W: Write>(to: &mut W, card: Card, scrap: &[u8]) -> io::Result<Card> {
-    let mut next = card;
-    let mut at: usize = 0;
-    while at <= scrap.len() {
-        let given = give(to, next, &scrap[at..])?;
-        let used = given.used;
-        let after = given.card;
-        next = after;
-        if scrap.len() - at <= used {
-            return Ok(next);
+fn bytes<W: Write>(to: &mut W, card: &mut Card, scrap: &[u8]) -> io::Result<()> {
+    let mut rest = scrap;
+    loop {
+        let used = give(to, card, rest)?;
+        if used == 0 || rest.len() <= used {
+            return Ok(());
         }
-        if used == 0 {
-            return Ok(next);
-        }
-        at += used;
+        rest = &rest[used..];
     }
-    Ok(next)
 }
 
 // `OUTCOME USED LEN BUFFER`
@@ -81,7 +60,7 @@ fn call_line<W: Write>(
     buffer: &[u8],
 ) -> io::Result<()> {
     let mut out = [0u8; 2048];
-    let mut n = bench_lines::unsigned(&mut out, 0, number as u64);
+    let mut n = bench_lines::unsigned(&mut out, 0, u64::from(number));
     n = bench_lines::spaced(&mut out, n, used as u64);
     n = bench_lines::spaced(&mut out, n, len as u64);
     n = bench_lines::put(&mut out, n, b' ');
@@ -89,37 +68,28 @@ fn call_line<W: Write>(
     bench_lines::end(to, &mut out, n)
 }
 
-// One call with a buffer of the size asked.
-fn called<W: Write>(to: &mut W, card: Card, scrap: &[u8], buffer: &mut [u8]) -> io::Result<Card> {
-    let turn = receive::receive(card, scrap, buffer);
-    let result = turn.outcome;
-    call_line(to, result.number(), turn.used, turn.len, buffer)?;
-    let next = turn.card;
-    Ok(next)
-}
-
-// `call B HEX`. B is 0 to 600; the line is no command where it is more.
-fn call<W: Write>(to: &mut W, card: Card, size: usize, scrap: &[u8]) -> io::Result<Card> {
+// `call B HEX`: one call with a buffer of the size asked. B is 0 to 600; the line is no command where it is more.
+fn call<W: Write>(to: &mut W, card: &mut Card, size: usize, scrap: &[u8]) -> io::Result<()> {
     let mut buffer = [0xA5u8; 600];
-    if size <= 600 {
-        return called(to, card, scrap, &mut buffer[0..size]);
-    }
-    unknown(to)?;
-    Ok(card)
+    let Some(lent) = buffer.get_mut(..size) else {
+        return unknown(to);
+    };
+    let turn = receive::receive_on(card, scrap, lent);
+    call_line(to, turn.outcome.number(), turn.used, turn.len, lent)
 }
 
 // `regdata HEX`: `OFFSET HEX`, or `-`. Behind the register data of a frame there is its CRC alone.
 fn register_data<W: Write>(to: &mut W, frame: &[u8]) -> io::Result<()> {
     let mut out = [0u8; 2048];
     let data = rtu::register_data(frame);
-    let behind = data.len() + 2;
-    if data.len() == 0 || frame.len() < behind {
-        let n = bench_lines::put(&mut out, 0, b'-');
-        return bench_lines::end(to, &mut out, n);
-    }
-    let mut n = bench_lines::unsigned(&mut out, 0, (frame.len() - behind) as u64);
-    n = bench_lines::put(&mut out, n, b' ');
-    n = bench_lines::bytes(&mut out, n, data);
+    let n = match frame.len().checked_sub(data.len() + 2) {
+        Some(offset) if !data.is_empty() => {
+            let n = bench_lines::unsigned(&mut out, 0, offset as u64);
+            let n = bench_lines::put(&mut out, n, b' ');
+            bench_lines::bytes(&mut out, n, data)
+        }
+        _ => bench_lines::put(&mut out, 0, b'-'),
+    };
     bench_lines::end(to, &mut out, n)
 }
 
@@ -138,12 +108,10 @@ fn tell(card: Card, event: Event) -> After {
 }
 
 // `tick N` and the other events: the outcome alone
-fn host<W: Write>(to: &mut W, card: Card, event: Event) -> io::Result<Card> {
-    let after = tell(card, event);
-    let result = after.outcome;
-    outcome(to, result.number())?;
-    let next = after.card;
-    Ok(next)
+fn host<W: Write>(to: &mut W, card: &mut Card, event: Event) -> io::Result<()> {
+    let after = tell(*card, event);
+    *card = after.card;
+    outcome(to, after.outcome.number())
 }
 
 // `nreply HEX`, `mreply P HEX`: a master reads the reply.
@@ -155,66 +123,52 @@ fn hear<W: Write>(to: &mut W, protocol: Protocol, reply: &[u8]) -> io::Result<()
     }
 }
 
-// The identity at the start of the bytes.
-fn identity_in(spelt: &[u8]) -> Identity {
-    let mut identity = BLANK;
-    if LENGTH <= spelt.len() {
-        identity.copy_from_slice(&spelt[0..LENGTH]);
-    }
-    identity
-}
-
-// Does a command, whose bytes stand at the start of `buffer`.
-fn perform<W: Write>(to: &mut W, card: Card, command: Command, buffer: &[u8]) -> io::Result<Card> {
+// Does a command.
+fn perform<W: Write>(to: &mut W, card: &mut Card, command: Command<'_>) -> io::Result<()> {
     match command {
         Command::Start(protocol) => {
-            outcome(to, 0)?;
-            Ok(Card::start(protocol, BLANK))
+            *card = Card::start(protocol, BLANK);
+            outcome(to, 0)
         }
-        Command::StartAs(protocol) => {
-            outcome(to, 0)?;
-            Ok(Card::start(protocol, identity_in(buffer)))
+        Command::StartAs(protocol, identity) => {
+            *card = Card::start(protocol, identity);
+            outcome(to, 0)
         }
         Command::Restart => {
-            outcome(to, 0)?;
-            Ok(card.restart())
+            *card = card.restart();
+            outcome(to, 0)
         }
-        Command::Bytes(n) => bytes(to, card, bench_words::first(buffer, n)),
-        Command::Call(size, n) => call(to, card, size, bench_words::first(buffer, n)),
+        Command::Bytes(scrap) => bytes(to, card, scrap),
+        Command::Call(size, scrap) => call(to, card, size, scrap),
         Command::Host(event) => host(to, card, event),
-        Command::State => {
-            state::print(to, card)?;
-            Ok(card)
-        }
-        Command::RegisterData(n) => {
-            register_data(to, bench_words::first(buffer, n))?;
-            Ok(card)
-        }
-        Command::Hear(protocol, n) => {
-            hear(to, protocol, bench_words::first(buffer, n))?;
-            Ok(card)
-        }
+        Command::State => state::print(to, card),
+        Command::RegisterData(frame) => register_data(to, frame),
+        Command::Hear(protocol, reply) => hear(to, protocol, reply),
     }
 }
 
 // Whether a line is for the master: it has four words or more, and does not start a card.
 fn asks_master(line: &[u8]) -> bool {
-    if bench_words::count(line) <= 3 {
-        return false;
-    }
-    !check::same(bench_words::word(line, 0), b"start")
+    3 < bench_words::count(line) && bench_words::word(line, 0) != b"start".as_slice()
 }
 
 // Does the command of a line, and prints its answer.
-pub(crate) fn answer<W: Write>(to: &mut W, card: Card, line: &[u8]) -> io::Result<Card> {
+fn obey<W: Write>(to: &mut W, card: &mut Card, line: &[u8]) -> io::Result<()> {
     let mut buffer = [0u8; 1350];
     if asks_master(line) {
-        bench_master::ask(to, line)?;
-        return Ok(card);
+        return bench_master::ask(to, line);
     }
-    let Some(command) = command::parse(line, &mut buffer) else {
-        unknown(to)?;
-        return Ok(card);
-    };
-    perform(to, card, command, &buffer)
+    match command::parse(line, &mut buffer) {
+        Some(command) => perform(to, card, command),
+        None => unknown(to),
+    }
+}
+
+// Answers a line. An empty one is skipped, and one of more than 2700 characters is no command.
+pub(crate) fn answer<W: Write>(to: &mut W, card: &mut Card, line: &[u8]) -> io::Result<()> {
+    match line.len() {
+        0 => Ok(()),
+        1..=2700 => obey(to, card, line),
+        _ => unknown(to),
+    }
 }

@@ -1,126 +1,73 @@
 // The input, a line at a time.
 //
-// The caller keeps what was read, the scrap, and the text of the line; a `Reader` is the place in both.
+// A `Reader` keeps what was read, the scrap; the text of the line is the caller's.
 ghost use Rattle.std.specs.Prelude.{◌≤◌};
 
 use std::io;
 use std::io::Read;
 
-// The characters of a line, at most 2700, and those of one read.
-pub(crate) type Text = [u8; 2700];
+// The characters of the longest line, 2700, and one more, by which a longer line is known: past that its characters are left out.
+pub(crate) type Text = [u8; 2701];
 
-pub(crate) type Scrap = [u8; 4096];
+// What a call of `next` comes to: a line, or what there is of one at the input's end.
+pub(crate) enum Line<'a> {
+    Whole(&'a [u8]),
+    Last(&'a [u8]),
+}
 
-// The characters of the scrap from `at` up to `end` wait. The text holds `len` characters of a line; a length above 2700 says that it is too
-// long. `whole` says that the line is at its end, `open` that there may be more to read.
-#[derive(Clone, Copy)]
+// The characters of the scrap from `at` up to `end` wait.
+#[derive(Drop)]
 pub(crate) struct Reader {
+    scrap: [u8; 4096],
     at: usize,
     end: usize,
-    pub(crate) len: usize,
-    pub(crate) whole: bool,
-    open: bool,
+    ghost waiting: { (at ≤ end) × (end ≤ 4096) },
 }
 
-// One character more of a line.
-fn add(text: &mut Text, len: usize, character: u8) -> usize {
-    if len < 2700 {
-        text[len] = character;
-        len + 1
-    } else {
-        2701
-    }
-}
-
-// A place of the scrap.
-fn within(place: usize) -> usize
-    ensures { result ≤ 4096 }
+// Characters more of a line that has `len`, so many as there is room for. In fixed memory, so its length stands beside it.
+fn add(text: &mut Text, len: usize, characters: &[u8]) -> usize
+    requires { len ≤ 2701 }
+    ensures { result ≤ 2701 }
 {
-    if place < 4096 { place } else { 4096 }
+    let room = &mut text[len..];
+    let n = room.len().min(characters.len());
+    room[..n].copy_from_slice(&characters[..n]);
+    len + n
 }
 
 impl Reader {
     // Nothing is read yet.
     pub(crate) fn new() -> Self {
         Reader {
+            scrap: [0; 4096],
             at: 0,
             end: 0,
-            len: 0,
-            whole: false,
-            open: true,
         }
     }
 
-    // Takes characters up to the end of the line, or of what waits.
-    fn take(self, scrap: &Scrap, text: &mut Text) -> Self {
-        let end = within(self.end);
-        let mut len = self.len;
-        let mut i = self.at;
-        while i < end {
-            let character = scrap[i];
-            i += 1;
-            if character == b'\n' {
-                return Reader {
-                    at: i,
-                    end,
-                    len,
-                    whole: true,
-                    open: self.open,
-                };
-            }
-            len = add(text, len, character);
-        }
-        Reader {
-            at: 0,
-            end: 0,
-            len,
-            whole: false,
-            open: self.open,
-        }
-    }
-
-    // Reads a scrap more. At the end of the input what there is of a line is a whole one.
-    fn refill<R: Read>(self, input: &mut R, scrap: &mut Scrap) -> io::Result<Self> {
-        if self.open {
-            let end = input.read(scrap)?;
-            if end > 0 {
-                return Ok(Reader {
-                    at: 0,
-                    end,
-                    len: self.len,
-                    whole: false,
-                    open: true,
-                });
-            }
-        }
-        Ok(Reader {
-            at: 0,
-            end: 0,
-            len: self.len,
-            whole: self.len > 0,
-            open: false,
-        })
-    }
-
-    // The next line: `whole`, the first `len` characters of `text`; or not whole, where there is none.
-    pub(crate) fn next<R: Read>(
-        self,
+    // Reads lines up to the next, and hands over its characters.
+    pub(crate) fn next<'a, R: Read>(
+        &mut self,
         input: &mut R,
-        scrap: &mut Scrap,
-        text: &mut Text,
-    ) -> io::Result<Self> {
-        let mut reader = self;
-        reader.len = 0;
+        text: &'a mut Text,
+    ) -> io::Result<Line<'a>> {
+        let mut len = 0;
+        // no `loop`: one that may not end needs the handle Wait, which this repository has none of
         for _ in 0..u64::MAX {
-            reader = reader.take(scrap, text);
-            if reader.whole {
-                return Ok(reader);
+            let waiting = &self.scrap[self.at..self.end];
+            if let Some(n) = waiting.iter().position(|character| *character == b'\n') {
+                len = add(text, len, &waiting[..n]);
+                self.at += n + 1;
+                return Ok(Line::Whole(&text[..len]));
             }
-            reader = reader.refill(input, scrap)?;
-            if !reader.open {
-                return Ok(reader);
+            len = add(text, len, waiting);
+            self.at = 0;
+            self.end = 0;
+            self.end = input.read(&mut self.scrap)?;
+            if self.end == 0 {
+                break;
             }
         }
-        Ok(reader)
+        Ok(Line::Last(&text[..len]))
     }
 }

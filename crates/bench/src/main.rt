@@ -8,36 +8,21 @@ mod state;
 
 use card::{Card, Protocol};
 use identity::BLANK;
-use lines::{Reader, Text};
+use lines::{Line, Reader};
 use std::io;
-use std::io::Write;
-
-// Answers the line of the first `len` characters of `text`. An empty one is skipped.
-fn turn<W: Write>(to: &mut W, card: Card, text: &Text, len: usize) -> io::Result<Card> {
-    if len == 0 {
-        return Ok(card);
-    }
-    let characters = &text[..];
-    if len <= characters.len() {
-        return desk::answer(to, card, &characters[0..len]);
-    }
-    desk::unknown(to)?;
-    Ok(card)
-}
 
 fn main(rt: HostRuntime) -> io::Result<()> {
     let mut input = rt.stdin();
     let mut to = rt.stdout();
-    let mut scrap = [0u8; 4096];
-    let mut text = [0u8; 2700];
+    let mut text = [0u8; 2701];
     let mut reader = Reader::new();
     let mut card = Card::start(Protocol::Nfo, BLANK);
+    // no `loop`: one that may not end needs the handle Wait, which this repository has none of
     for _ in 0..u64::MAX {
-        reader = reader.next(&mut input, &mut scrap, &mut text)?;
-        if !reader.whole {
-            return Ok(());
+        match reader.next(&mut input, &mut text)? {
+            Line::Whole(line) => desk::answer(&mut to, &mut card, line)?,
+            Line::Last(line) => return desk::answer(&mut to, &mut card, line),
         }
-        card = turn(&mut to, card, &text, reader.len)?;
     }
     Ok(())
 }

@@ -1,30 +1,16 @@
 // The state line of a card. No other file of the bench looks inside one.
 use card::Card;
-use drive::{CAUSES, DIN1, FLAGS, Plant, STATION};
-use port::{Numbers, PROTOCOL, SIOERR, SUM};
+use drive::{CAUSES, DIN1, FLAGS, STATION};
+use port::{PROTOCOL, SIOERR, SUM};
 use std::io;
 use std::io::Write;
 use table::names::*;
 
 // `state`: prints the line.
-pub(crate) fn print<W: Write>(to: &mut W, card: Card) -> io::Result<()> {
-    let line = card.port;
-    let pending = line.pending;
-    let held = pending.bytes;
-    let port = line.numbers;
-    let plant = card.plant;
-    show(to, &held, pending.len, &port, &plant)
-}
-
-// The same of the card's parts.
-fn show<W: Write>(
-    to: &mut W,
-    held: &[u8; 512],
-    len: usize,
-    port: &Numbers,
-    plant: &Plant,
-) -> io::Result<()> {
+pub(crate) fn print<W: Write>(to: &mut W, card: &Card) -> io::Result<()> {
     let mut out = [0u8; 2048];
+    let port = &card.port.numbers;
+    let plant = &card.plant;
     let others = [
         plant[MODE],
         plant[SCMD],
@@ -38,15 +24,13 @@ fn show<W: Write>(
         port[SUM],
         plant[STATION],
     ];
-    let protocol = port[PROTOCOL];
-    let words = &plant[..];
-    let waiting = bench_words::first(held, len);
+    let pending = &card.port.pending;
     let n = bench_lines::state_line(
         &mut out,
-        protocol,
-        &words[P_NOM..MODE],
+        port[PROTOCOL],
+        &plant[P_NOM..MODE],
         &others,
-        waiting,
+        bench_words::first(&pending.bytes, pending.len),
         plant[DRIVE_STATUS],
     );
     bench_lines::end(to, &mut out, n)

@@ -1,7 +1,7 @@
 -- The digits of a number, put one in front of the other from the last on, are its digits as `decimal_of` has them. Assumes nothing.
-use Rattle.std.proofs.Common.{◌≡◌, ℕ, zero, suc, ◌+◌, ◌-◌, ◌*◌, ◌/◌, ◌%◌, ◌^◌, ◌≤◌, ◌<◌, List, [], ◌∷◌, ◌++◌, length, set, take, drop, length-drop, sym, ap, ◌∙◌, append_assoc, add-one, arith, lt-ltb, le-ltb, drop_of_length-le}
+use Rattle.std.proofs.Common.{◌≡◌, ℕ, zero, suc, ◌+◌, ◌-◌, ◌*◌, ◌/◌, ◌%◌, ◌^◌, ◌≤◌, ◌<◌, List, [], ◌∷◌, ◌++◌, length, set, drop, sym, ap, ◌∙◌, append_assoc, add-one, arith, lt-ltb, le-ltb, drop_of_length-le}
 use mathlib.Core.List.{append-nil}
-use Rattle.std.proofs.lemmas.List.{drop-set, take_all}
+use Rattle.std.proofs.lemmas.List.{drop-set}
 use Rattle.std.proofs.Math.Nat.{pow-suc}
 use Rattle.std.proofs.Math.ListN.{length-set}
 use mir.Syntax.{w64}
@@ -75,7 +75,3 @@ spelling_done number rest (suc m) next digits s h e =
     ∙ ap (λ (l : List ℕ). l ++ drop (suc m) digits) (one_digit m rest h)
     ∙ (rw front at s.left)
     )
-
--- all that stands from a place on in twenty characters
-pub all_behind : (digits text : List ℕ) (at : ℕ) → length digits ≡ 20 → drop at digits ≡ text → take (20 - at) (drop at digits) ≡ text
-all_behind digits text at l e = take_all (20 - at) (drop at digits) (omega (arith, length-drop at digits)) ∙ e

@@ -8,12 +8,12 @@ use native.Mathlib.Numerals.{add-one}
 use native.Mathlib.Omega.{arith}
 use borrow.Author.Tests.{leb-true, leb-false, lt-ltb, le-ltb}
 use lib.Dec.{leb}
-use lib.ListN.{length, drop, get_or, set, length-append, drop_of_length-le}
-use lib.Seq.{sets, length-sets, set_out, drop-cons}
+use lib.ListN.{length, drop, get_or, length-append, drop_of_length-le}
+use lib.Seq.{sets, length-sets, drop-cons}
 use Rattle.base.proofs.Sets.{sets_append, sets_out}
 use Rattle.hex_pairs.specs.Hex.{digit_of, hex_of}
 use Rattle.bench_lines.specs.Answer.{end_of, decimal_of, signed_of, pair_of, shown}
-use Rattle.bench_lines.specs.State.{is_short, is_long, column_of, columns_of}
+use Rattle.bench_lines.specs.State.{column_of, columns_of}
 
 -- a text was put at a place of a buffer: where it ends, and the buffer then
 abbrev pub Put : List ℕ → ℕ → List ℕ → ℕ → List ℕ → Type 0
@@ -22,15 +22,6 @@ Put buffer at text end after = record { end : end ≡ end_of buffer at text; len
 -- the same text
 pub put_same : (o o₁ a b : List ℕ) (at r : ℕ) → a ≡ b → Put o at a r o₁ → Put o at b r o₁
 put_same o o₁ a b at r e p = subst (λ (text : List ℕ). Put o at text r o₁) e p
-
--- one character, where there is room and where there is none
-pub put_here : (o : List ℕ) (at c : ℕ) → at < length o → Put o at (c ∷ []) (at + 1) (set o at c)
-unfolding end_of
-put_here o at c h = record { end = omega arith; lent = refl }
-
-pub put_out : (o : List ℕ) (at c : ℕ) → length o ≤ at → Put o at (c ∷ []) at o
-unfolding end_of
-put_out o at c h = record { end = omega arith; lent = sym (set_out o at c h) }
 
 -- one text, then the next
 pub then : (o o₁ o₂ a b : List ℕ) (at r s : ℕ) → Put o at a r o₁ → Put o₁ r b s o₂ → Put o at (a ++ b) s o₂
@@ -137,18 +128,3 @@ pub signed_minus : (o o₁ o₂ : List ℕ) (at r s all word : ℕ) → all / 2 
 unfolding signed_of
 signed_minus o o₁ o₂ at r s all word h p q =
     simp (le-ltb word (all / 2) h) (then o o₁ o₂ (0x2D ∷ []) (decimal_of (all - word)) at r s p q)
-
-pub column_short : (o o₁ : List ℕ) (at r k word : ℕ) (t : Bool) → t ≡ is_short k → t ≡ true → Put o at (signed_of 0x10000 (word % 0x10000)) r o₁
-    → Put o at (column_of k word) r o₁
-unfolding column_of
-column_short o o₁ at r k word t e h p = let yes : is_short k ≡ true = sym e ∙ h in simp yes p
-
-pub column_long : (o o₁ : List ℕ) (at r k word : ℕ) (t u : Bool) → t ≡ is_short k → t ≡ false → u ≡ is_long k → u ≡ true → Put o at (signed_of 0x100000000 word) r o₁
-    → Put o at (column_of k word) r o₁
-unfolding column_of
-column_long o o₁ at r k word t u e h f g p = let no : is_short k ≡ false = sym e ∙ h in let yes : is_long k ≡ true = sym f ∙ g in simp (no, yes) p
-
-pub column_plain : (o o₁ : List ℕ) (at r k word : ℕ) (t u : Bool) → t ≡ is_short k → t ≡ false → u ≡ is_long k → u ≡ false → Put o at (decimal_of word) r o₁
-    → Put o at (column_of k word) r o₁
-unfolding column_of
-column_plain o o₁ at r k word t u e h f g p = let no : is_short k ≡ false = sym e ∙ h in let not-long : is_long k ≡ false = sym f ∙ g in simp (no, not-long) p

@@ -1,12 +1,12 @@
 // The answers of the bench as text: numbers in decimal, bytes in hex, and the state line.
 // An answer gathers in a buffer of the caller's, and each routine hands back the place where it ends now. What does not fit is left out.
-// `end` hands it to a writer.
+// `end` hands it to a writer. Buffer and place stand apart: docs/PROMISES.md names the routines, and their clause `end` is of both.
 #![tactic(auto)]
 
 mod numbers;
 mod state;
 
-ghost use Rattle.std.specs.Prelude.{◌≡◌, [], ◌∷◌, ◌/◌, ◌%◌};
+ghost use Rattle.std.specs.Prelude.{◌≡◌, [], ◌∷◌};
 ghost use Rattle.std.proofs.lemmas.List.Edits.{sets};
 ghost use Rattle.bench_lines.specs.Answer.{end_of, pair_of, shown};
 
@@ -15,7 +15,8 @@ pub use state::state_line;
 use std::io;
 use std::io::Write;
 
-// One character more.
+// One character more. It is stored by its place, and not by `get_mut`, whose clause says nothing of the buffer's bytes after it.
+#[tactic(auto, unfolding(crate::specs::Answer::end_of))]
 pub fn put(out: &mut [u8], at: usize, character: u8) -> usize
     ensures end { result ≡ end_of out.old at (character ∷ []) }
     ensures lent { out.new ≡ sets out.old at (character ∷ []) }
@@ -33,10 +34,8 @@ pub(crate) fn put_all(out: &mut [u8], at: usize, characters: &[u8]) -> usize
     ensures lent { out.new ≡ sets out.old at characters.now }
 {
     let mut n = at;
-    let mut i: usize = 0;
-    while i < characters.len() {
-        n = put(out, n, characters[i]);
-        i += 1;
+    for character in characters {
+        n = put(out, n, *character);
     }
     n
 }
@@ -55,14 +54,12 @@ pub fn bytes(out: &mut [u8], at: usize, bytes: &[u8]) -> usize
     ensures end { result ≡ end_of out.old at (shown bytes.now) }
     ensures lent { out.new ≡ sets out.old at (shown bytes.now) }
 {
-    if bytes.len() == 0 {
+    if bytes.is_empty() {
         return put(out, at, b'-');
     }
     let mut n = at;
-    let mut i: usize = 0;
-    while i < bytes.len() {
-        n = byte(out, n, bytes[i]);
-        i += 1;
+    for next in bytes {
+        n = byte(out, n, *next);
     }
     n
 }
@@ -72,8 +69,8 @@ pub fn end<W: Write>(to: &mut W, out: &mut [u8], at: usize) -> io::Result<()>
     ensures lent { out.new ≡ sets out.old at (0x0A ∷ []) }
 {
     let n = put(out, at, b'\n');
-    if n <= out.len() {
-        to.write_all(&out[0..n])?;
+    if let Some(line) = out.get(..n) {
+        to.write_all(line)?;
     }
     Ok(())
 }

@@ -15,7 +15,8 @@ pub fn unsigned(out: &mut [u8], at: usize, number: u64) -> usize
     put_all(out, at, &digits[first..])
 }
 
-// Puts the digits of a number at the end of `digits`, and tells where the first of them stands.
+// Puts the digits of a number at the end of `digits`, and tells where the first of them stands. It is no `write!`: into a slice std's says nothing of
+// the bytes written, which `decimal_of` promises, and a String is on the heap.
 fn decimal(number: u64, digits: &mut [u8; 20]) -> usize
     ensures within { result ≤ 20 }
     ensures spelt { drop result digits.new ≡ decimal_of number }
@@ -54,12 +55,13 @@ fn signed(out: &mut [u8], at: usize, word: u64, all: u64) -> usize
     unsigned(out, n, all - word)
 }
 
-// The low 16 bits of a word as a signed number.
+// The low 16 bits of a word as a signed number. This and `signed32` are `signed` at their numbers of words: one function for both would take the number
+// of bits, which no caller has, and could be asked for others.
 pub fn signed16(out: &mut [u8], at: usize, word: u32) -> usize
     ensures end { result ≡ end_of out.old at (signed_of 0x10000 (word % 0x10000)) }
     ensures lent { out.new ≡ sets out.old at (signed_of 0x10000 (word % 0x10000)) }
 {
-    signed(out, at, (word % 65536) as u64, 65536)
+    signed(out, at, u64::from(word % 65536), 65536)
 }
 
 // A word of 32 bits as a signed number.
@@ -67,5 +69,5 @@ pub fn signed32(out: &mut [u8], at: usize, word: u32) -> usize
     ensures end { result ≡ end_of out.old at (signed_of 0x100000000 word) }
     ensures lent { out.new ≡ sets out.old at (signed_of 0x100000000 word) }
 {
-    signed(out, at, word as u64, 4294967296)
+    signed(out, at, u64::from(word), 4294967296)
 }

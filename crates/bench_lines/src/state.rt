@@ -7,35 +7,23 @@ ghost use Rattle.bench_lines.specs.State.{is_short, is_long, column_of, columns_
 use crate::{bytes, put, signed16, signed32, spaced, unsigned};
 
 // Columns 2 to 23 are rows 301 to 322, of which 320 and 321 have 32 bits; FrqAct, column 27, has 16.
+#[tactic(auto, using(base::proofs::Tests::tests), unfolding(crate::specs::State::is_short))]
 fn is_short(k: usize) -> bool
     ensures { result ≡ is_short k }
 {
-    if k == 23 {
-        return true;
-    }
-    if k == 27 {
-        return true;
-    }
-    if k < 2 {
-        return false;
-    }
-    k <= 20
+    matches!(k, 2..=20 | 23 | 27)
 }
 
 // Rows 320 and 321 are columns 21 and 22, I-rms is column 28.
+#[tactic(auto, using(base::proofs::Tests::tests), unfolding(crate::specs::State::is_long))]
 fn is_long(k: usize) -> bool
     ensures { result ≡ is_long k }
 {
-    if k == 21 {
-        return true;
-    }
-    if k == 22 {
-        return true;
-    }
-    k == 28
+    matches!(k, 21 | 22 | 28)
 }
 
 // The number of column `k`, counted from 1.
+#[tactic(auto, using(base::proofs::Tests::tests), unfolding(crate::specs::State::column_of))]
 fn column(out: &mut [u8], at: usize, k: usize, word: u32) -> usize
     ensures end { result ≡ end_of out.old at (column_of k word) }
     ensures lent { out.new ≡ sets out.old at (column_of k word) }
@@ -46,7 +34,7 @@ fn column(out: &mut [u8], at: usize, k: usize, word: u32) -> usize
     if is_long(k) {
         return signed32(out, at, word);
     }
-    unsigned(out, at, word as u64)
+    unsigned(out, at, u64::from(word))
 }
 
 // The numbers of columns `from` and on, a space after each.
@@ -55,11 +43,9 @@ fn columns(out: &mut [u8], at: usize, from: u8, words: &[u32]) -> usize
     ensures lent { out.new ≡ sets out.old at (columns_of from words.now) }
 {
     let mut n = at;
-    let mut k: usize = 0;
-    while k < words.len() {
-        n = column(out, n, from as usize + k, words[k]);
+    for (k, word) in words.iter().enumerate() {
+        n = column(out, n, usize::from(from) + k, *word);
         n = put(out, n, b' ');
-        k += 1;
     }
     n
 }
@@ -80,5 +66,5 @@ pub fn state_line(
     let second = columns(out, first, 2, rows);
     let third = columns(out, second, 24, others);
     let fourth = bytes(out, third, pending);
-    spaced(out, fourth, status as u64)
+    spaced(out, fourth, u64::from(status))
 }

@@ -1,6 +1,8 @@
 // The replies that a master reads: what each of them says is printed.
+// Where an answer ends stands beside its buffer, as `put` and the other public routines of `bench_lines` take it and hand it back (their clause `end`).
 ghost use Rattle.std.specs.Prelude.{◌≡◌, IfOk};
 
+use crate::print;
 use master_reply::{Heard, Reply};
 use std::io;
 use std::io::Write;
@@ -10,27 +12,27 @@ use table::ENumber;
 fn said(out: &mut [u8], len: usize, letter: u8, address: u8) -> usize {
     let mut n = bench_lines::put(out, len, b' ');
     n = bench_lines::put(out, n, letter);
-    bench_lines::spaced(out, n, address as u64)
+    bench_lines::spaced(out, n, u64::from(address))
 }
 
 // ` LETTER ADR NUMBER NUMBER`
 fn said_of(out: &mut [u8], len: usize, letter: u8, address: u8, first: u16, second: u16) -> usize {
     let mut n = said(out, len, letter, address);
-    n = bench_lines::spaced(out, n, first as u64);
-    bench_lines::spaced(out, n, second as u64)
+    n = bench_lines::spaced(out, n, u64::from(first));
+    bench_lines::spaced(out, n, u64::from(second))
 }
 
 // ` R ADR E VALUE`
 fn value(out: &mut [u8], len: usize, address: u8, e: ENumber, word: u16) -> usize {
     let mut n = said(out, len, b'R', address);
-    n = bench_lines::spaced(out, n, e.0 as u64);
+    n = bench_lines::spaced(out, n, u64::from(e.0));
     n = bench_lines::put(out, n, b' ');
-    bench_lines::signed16(out, n, word as u32)
+    bench_lines::signed16(out, n, u32::from(word))
 }
 
 // `nreply HEX`: the outcome, and what an NFO serial reply says.
 fn nfo(out: &mut [u8], reply: Option<master_nfo::Reply>) -> usize {
-    let n = bench_lines::unsigned(out, 0, master_nfo::number_of(reply) as u64);
+    let n = bench_lines::unsigned(out, 0, u64::from(master_nfo::number_of(reply)));
     match reply {
         Some(master_nfo::Reply::Told(address, e, word)) => value(out, n, address, e, word),
         Some(master_nfo::Reply::Acknowledged(address)) => said(out, n, b'A', address),
@@ -39,22 +41,13 @@ fn nfo(out: &mut [u8], reply: Option<master_nfo::Reply>) -> usize {
     }
 }
 
-// A register in hex, high byte first.
-fn register(out: &mut [u8], len: usize, word: u16) -> usize {
-    let n = bench_lines::byte(out, len, (word / 256) as u8);
-    bench_lines::byte(out, n, (word % 256) as u8)
-}
-
-// The first `count` registers.
+// The first `count` registers in hex, of each the high byte first.
 fn registers(out: &mut [u8], len: usize, words: &[u16], count: usize) -> usize {
     let mut n = len;
-    let mut i: usize = 0;
-    while i < words.len() {
-        if i == count {
-            return n;
+    for word in words.iter().take(count) {
+        for byte in word.to_be_bytes() {
+            n = bench_lines::byte(out, n, byte);
         }
-        n = register(out, n, words[i]);
-        i += 1;
     }
     n
 }
@@ -69,16 +62,15 @@ fn data(
     count: usize,
 ) -> usize {
     let mut n = said(out, len, b'D', address);
-    n = bench_lines::spaced(out, n, function as u64);
+    n = bench_lines::spaced(out, n, u64::from(function));
     n = bench_lines::put(out, n, b' ');
     registers(out, n, words, count)
 }
 
 // `mreply P HEX`: the outcome, and what a Modbus reply says.
 fn modbus(out: &mut [u8], heard: Heard) -> usize {
-    let reply = heard.reply;
-    let words = heard.words;
-    let n = bench_lines::unsigned(out, 0, master_reply::number_of(reply) as u64);
+    let Heard { words, reply } = heard;
+    let n = bench_lines::unsigned(out, 0, u64::from(master_reply::number_of(reply)));
     match reply {
         Some(Reply::Data(address, function, count)) => data(
             out, n, address, function, &words, count,
@@ -88,7 +80,7 @@ fn modbus(out: &mut [u8], heard: Heard) -> usize {
         ),
         Some(Reply::Many(address, first, count)) => said_of(out, n, b'M', address, first.0, count),
         Some(Reply::Exception(address, function, code)) => {
-            said_of(out, n, b'X', address, function as u16, code as u16)
+            said_of(out, n, b'X', address, u16::from(function), u16::from(code))
         }
         None => n,
     }
@@ -98,25 +90,19 @@ fn modbus(out: &mut [u8], heard: Heard) -> usize {
 pub fn hear_nfo<W: Write>(to: &mut W, reply: &[u8]) -> io::Result<()>
     ensures { IfOk result (λ u. u ≡ tt) }
 {
-    let mut out = [0u8; 2048];
-    let n = nfo(&mut out, master_nfo::read_reply(reply));
-    bench_lines::end(to, &mut out, n)
+    print(to, |out| nfo(out, master_nfo::read_reply(reply)))
 }
 
-// Reads a reply of Modbus RTU, and prints what it says to `to`.
+// Reads a reply of Modbus RTU, and prints what it says to `to`. One for each protocol: docs/PROMISES.md names them, and each is a line over its reader.
 pub fn hear_rtu<W: Write>(to: &mut W, reply: &[u8]) -> io::Result<()>
     ensures { IfOk result (λ u. u ≡ tt) }
 {
-    let mut out = [0u8; 2048];
-    let n = modbus(&mut out, master_rtu::read_reply(reply));
-    bench_lines::end(to, &mut out, n)
+    print(to, |out| modbus(out, master_rtu::read_reply(reply)))
 }
 
 // Reads a reply of Modbus ASCII, and prints what it says to `to`.
 pub fn hear_ascii<W: Write>(to: &mut W, reply: &[u8]) -> io::Result<()>
     ensures { IfOk result (λ u. u ≡ tt) }
 {
-    let mut out = [0u8; 2048];
-    let n = modbus(&mut out, master_ascii::read_reply(reply));
-    bench_lines::end(to, &mut out, n)
+    print(to, |out| modbus(out, master_ascii::read_reply(reply)))
 }

@@ -1,144 +1,106 @@
--- The loops over a line: counting words, and passing spaces. Assumes nothing.
-use mathlib.Core.Path.{◌≡◌, refl, sym, ap, ◌∙◌}
-use mathlib.Core.Bool.{Bool, true, false}
-use mathlib.Core.List.{List, [], ◌∷◌}
-use Prim.Native.Nat.{ℕ, zero, suc, ◌+◌, ◌-◌, ◌≤◌, ◌<◌}
-use native.Mathlib.Numerals.{add-one}
-use native.Mathlib.Omega.{arith}
-use borrow.Author.Tests.{eq-eqb, ne_eqb}
-use lib.Dec.{eqb}
-use lib.ListN.{length, take, drop, get_or, drop_of_length-le}
-use lib.Seq.{drop-cons}
+-- The words of a line are the parts between its spaces. Assumes nothing.
+use Rattle.std.proofs.Common.{◌≡◌, ℕ, zero, suc, ◌+◌, Bool, true, false, eqb, List, [], ◌∷◌, length, get_or, sym, refl, ap, ◌∙◌, arith, cond, Option, Some, None}
+use Rattle.std.specs.List.{slice_split, onto_first, list_any}
+use Rattle.std.specs.List.{slice_get}
+use Rattle.std.specs.Option.{option_map, unwrap_or}
+use Rattle.std.proofs.lemmas.Option.{unwrap_or-slice_get}
+use borrow.Author.Tests.{ne_eqb}
+use denote.Ref.{Bor}
 use Rattle.base.specs.Choice.{pick}
 use Rattle.bench_words.specs.Words.{count_from, word_count, behind_spaces, up_to_space, word_at}
 
--- ---- counting: with the characters left the count is the line's
-pub record Counting (line : List ℕ) (words before i : ℕ) : Type 0 where
-  pub passed : i ≤ length line
-  pub few : words ≤ i + 1
-  pub left : count_from words before (drop i line) ≡ word_count line
+abbrev pub space : ℕ → Bool
+space c = eqb c 0x20
 
-pub count_starts : (line : List ℕ) → Counting line 1 0x20 0
-unfolding word_count
-count_starts line = record { passed = omega arith; few = omega arith; left = refl }
+abbrev pub parts : List ℕ → List (List ℕ)
+parts line = slice_split space line
 
-count_turn : (line : List ℕ) (words before i : ℕ) → i < length line
-    → count_from words before (drop i line)
-    ≡ pick (eqb (get_or line i 0) 0x20) (pick (eqb before 0x20) 0 (count_from (words + 1) (get_or line i 0) (drop (i + 1) line))) (count_from words (get_or line i 0) (drop (i + 1) line))
-unfolding count_from
-count_turn line words before i h = rw (add-one i, drop-cons line i 0 h)
+-- ---- word k is part k
+onto_later : (c k : ℕ) (s : List (List ℕ)) → get_or (onto_first c s) (suc k) [] ≡ get_or s (suc k) []
+onto_later c k [] = refl
+onto_later c k (x ∷ s) = refl
 
--- a space after a space, a space that ends a word, and another character
-pub count_twice : (line : List ℕ) (words before i : ℕ) → Counting line words before i → i < length line → get_or line i 0 ≡ 0x20 → before ≡ 0x20 → 0 ≡ word_count line
-count_twice line words before i c h e f = sym (simp (eq-eqb (get_or line i 0) 0x20 e, eq-eqb before 0x20 f) at (count_turn line words before i h)) ∙ c.left
+onto_now : (c : ℕ) (s : List (List ℕ)) → get_or (onto_first c s) 0 [] ≡ c ∷ get_or s 0 []
+onto_now c [] = refl
+onto_now c (x ∷ s) = refl
 
-pub count_space : (line : List ℕ) (words next before i : ℕ) → Counting line words before i → i < length line → get_or line i 0 ≡ 0x20 → (before ≡ 0x20 → ⊥)
-    → next ≡ words + 1 → Counting line next (get_or line i 0) (i + 1)
-count_space line words next before i c h e f q =
-    record {
-      passed = omega arith;
-      few = omega (arith, c.few);
-      left = ap (λ (n : ℕ). count_from n (get_or line i 0) (drop (i + 1) line)) q ∙ sym (simp (eq-eqb (get_or line i 0) 0x20 e, ne_eqb before 0x20 f) at (count_turn line words before i h)) ∙ c.left;
-    }
-
-pub count_other : (line : List ℕ) (words next before i : ℕ) → Counting line words before i → i < length line → (get_or line i 0 ≡ 0x20 → ⊥) → next ≡ words
-    → Counting line next (get_or line i 0) (i + 1)
-count_other line words next before i c h e q =
-    record {
-      passed = omega arith;
-      few = omega (arith, c.few);
-      left = ap (λ (n : ℕ). count_from n (get_or line i 0) (drop (i + 1) line)) q ∙ sym (simp (ne_eqb (get_or line i 0) 0x20 e) at (count_turn line words before i h)) ∙ c.left;
-    }
-
--- the line's end
-count_last : (line : List ℕ) (words before i : ℕ) → Counting line words before i → length line ≤ i → pick (eqb before 0x20) 0 words ≡ word_count line
-unfolding count_from
-count_last line words before i c h = sym (ap (count_from words before) (drop_of_length-le line h)) ∙ c.left
-
-pub count_ends_space : (line : List ℕ) (words before i : ℕ) → Counting line words before i → length line ≤ i → before ≡ 0x20 → 0 ≡ word_count line
-count_ends_space line words before i c h e = simp (eq-eqb before 0x20 e) at (count_last line words before i c h)
-
-pub count_ends : (line : List ℕ) (words before i : ℕ) → Counting line words before i → length line ≤ i → (before ≡ 0x20 → ⊥) → words ≡ word_count line
-count_ends line words before i c h e = simp (ne_eqb before 0x20 e) at (count_last line words before i c h)
-
--- ---- passing spaces: behind `left` of what is left stands the word
-pub record Passing (line : List ℕ) (k left i : ℕ) : Type 0 where
-  pub passed : i ≤ length line
-  pub behind : behind_spaces left (drop i line) ≡ behind_spaces k line
-
-pub pass_starts : (line : List ℕ) (k : ℕ) → Passing line k k 0
-pass_starts line k = record { passed = omega arith; behind = refl }
-
-pass_turn : (line : List ℕ) (m i : ℕ) → i < length line
-    → behind_spaces (suc m) (drop i line) ≡ pick (eqb (get_or line i 0) 0x20) (behind_spaces m (drop (i + 1) line)) (behind_spaces (suc m) (drop (i + 1) line))
-unfolding behind_spaces
-pass_turn line m i h = rw (add-one i, drop-cons line i 0 h)
-
-pub pass_found : (line : List ℕ) (k left i : ℕ) → Passing line k left i → left ≡ 0 → drop i line ≡ behind_spaces k line
-unfolding behind_spaces
-pass_found line k left i p e = ap (λ (n : ℕ). behind_spaces n (drop i line)) (sym e) ∙ p.behind
-
-pub pass_space : (line : List ℕ) (k left next i : ℕ) → Passing line k left i → i < length line → (left ≡ 0 → ⊥) → get_or line i 0 ≡ 0x20 → next ≡ left - 1 → Passing line k next (i + 1)
-pass_space line k zero next i p h n e q = absurd (n refl)
-pass_space line k (suc m) next i p h n e q =
-    let one : next ≡ m = omega arith in
-    record {
-      passed = omega arith;
-      behind = ap (λ (x : ℕ). behind_spaces x (drop (i + 1) line)) one ∙ sym (simp (eq-eqb (get_or line i 0) 0x20 e) at (pass_turn line m i h)) ∙ p.behind;
-    }
-
-pub pass_other : (line : List ℕ) (k left next i : ℕ) → Passing line k left i → i < length line → (left ≡ 0 → ⊥) → (get_or line i 0 ≡ 0x20 → ⊥) → next ≡ left → Passing line k next (i + 1)
-pass_other line k zero next i p h n e q = absurd (n refl)
-pass_other line k (suc m) next i p h n e q = record { passed = omega arith; behind = ap (λ (x : ℕ). behind_spaces x (drop (i + 1) line)) q ∙ sym (simp (ne_eqb (get_or line i 0) 0x20 e) at (pass_turn line m i h)) ∙ p.behind }
-
-behind_none : (left : ℕ) → behind_spaces left [] ≡ []
-unfolding behind_spaces
-behind_none zero = refl
-behind_none (suc m) = refl
-
-pub pass_end : (line : List ℕ) (k left i : ℕ) → Passing line k left i → length line ≤ i → drop i line ≡ behind_spaces k line
-pass_end line k left i p h =
-    let none : drop i line ≡ [] = drop_of_length-le line h in
-    none ∙ sym (behind_none left) ∙ ap (behind_spaces left) (sym none) ∙ p.behind
-
--- ---- a word, up to the next space
-pub word_taken : (s : List ℕ) → take (length (up_to_space s)) s ≡ up_to_space s
-unfolding up_to_space
-word_taken [] = refl
-word_taken (c ∷ t) = go (eqb c 0x20) (word_taken t)
+pub part_word : (k : ℕ) (line : List ℕ) → get_or (parts line) k [] ≡ word_at k line
+unfolding word_at behind_spaces up_to_space
+part_word zero [] = refl
+part_word (suc k) [] = refl
+part_word zero (c ∷ t) = go (space c) (part_word zero t)
   where
-    go : (b : Bool) → take (length (up_to_space t)) t ≡ up_to_space t → take (length (pick b [] (c ∷ up_to_space t))) (c ∷ t) ≡ pick b [] (c ∷ up_to_space t)
+    go : (b : Bool) → get_or (parts t) 0 [] ≡ up_to_space t → get_or (cond b ([] ∷ parts t) (onto_first c (parts t))) 0 [] ≡ pick b [] (c ∷ up_to_space t)
     go true e = refl
-    go false e = ap (λ (l : List ℕ). c ∷ l) e
+    go false e = onto_now c (parts t) ∙ ap (λ (l : List ℕ). c ∷ l) e
+part_word (suc k) (c ∷ t) = go (space c) (part_word k t) (part_word (suc k) t)
+  where
+    go : (b : Bool) → get_or (parts t) k [] ≡ up_to_space (behind_spaces k t) → get_or (parts t) (suc k) [] ≡ up_to_space (behind_spaces (suc k) t)
+        → get_or (cond b ([] ∷ parts t) (onto_first c (parts t))) (suc k) [] ≡ up_to_space (pick b (behind_spaces k t) (behind_spaces (suc k) t))
+    go true e f = e
+    go false e f = onto_later c k (parts t) ∙ f
 
--- seeking its end from place `from` on: what is left of the word ends where the word does
-pub record Seeking (line : List ℕ) (from i : ℕ) : Type 0 where
-  pub passed : i ≤ length line
-  pub left : i + length (up_to_space (drop i line)) ≡ from + length (up_to_space (drop from line))
+-- ---- the parts are counted, where none is empty
+abbrev pub empty : List ℕ → Bool
+empty s = eqb (length s) 0
 
-seek_turn : (line : List ℕ) (i : ℕ) → i < length line → up_to_space (drop i line) ≡ pick (eqb (get_or line i 0) 0x20) [] (get_or line i 0 ∷ up_to_space (drop (i + 1) line))
-unfolding up_to_space
-seek_turn line i h = rw (add-one i, drop-cons line i 0 h)
+-- all but the first, and what they count behind `words` words
+abbrev later : List (List ℕ) → List (List ℕ)
+later [] = []
+later (x ∷ s) = s
 
-pub seek_found : (line : List ℕ) (from i : ℕ) → Seeking line from i → i < length line → get_or line i 0 ≡ 0x20 → i ≡ from + length (up_to_space (drop from line))
-seek_found line from i s h e =
-    let none : up_to_space (drop i line) ≡ [] = simp (eq-eqb (get_or line i 0) 0x20 e) at (seek_turn line i h) in
-    omega (arith, s.left, ap length none)
+abbrev counted : ℕ → List (List ℕ) → ℕ
+counted words s = pick (list_any empty s) 0 (words + length s)
 
-pub seek_other : (line : List ℕ) (from i : ℕ) → Seeking line from i → i < length line → (get_or line i 0 ≡ 0x20 → ⊥) → Seeking line from (i + 1)
-seek_other line from i s h e =
-    let one : up_to_space (drop i line) ≡ get_or line i 0 ∷ up_to_space (drop (i + 1) line) = simp (ne_eqb (get_or line i 0) 0x20 e) at (seek_turn line i h) in
-    record { passed = omega arith; left = omega (arith, s.left, ap length one) }
+later_onto : (c : ℕ) (s : List (List ℕ)) → later (onto_first c s) ≡ later s
+later_onto c [] = refl
+later_onto c (x ∷ s) = refl
 
-pub seek_end : (line : List ℕ) (from i : ℕ) → Seeking line from i → length line ≤ i → i ≡ from + length (up_to_space (drop from line))
-unfolding up_to_space
-seek_end line from i s h =
-    let none : drop i line ≡ [] = drop_of_length-le line h in
-    omega (arith, s.left, ap (λ (l : List ℕ). length (up_to_space l)) none)
+counted_onto : (c words : ℕ) (s : List (List ℕ)) → counted words (onto_first c s) ≡ counted (words + 1) (later s)
+counted_onto c words [] = omega arith
+counted_onto c words (x ∷ s) =
+    let none : eqb (length (c ∷ x)) 0 ≡ false = ne_eqb (length (c ∷ x)) 0 (λ e. absurd (omega arith)) in
+    let more : words + suc (length s) ≡ words + 1 + length s = omega arith in
+    simp (none, more)
 
-pub word_read : (line : List ℕ) (k from to : ℕ) → drop from line ≡ behind_spaces k line → to ≡ from + length (up_to_space (drop from line))
-    → take (to - from) (drop from line) ≡ word_at k line
-unfolding word_at
-word_read line k from to e h =
-    let size : to - from ≡ length (up_to_space (drop from line)) = omega arith in
-    rw size (word_taken (drop from line) ∙ ap up_to_space e)
+-- a line is counted by its parts: behind a character of a word the first of them is that word's
+record Counts (t : List ℕ) : Type 0 where
+  within : (words before : ℕ) → eqb before 0x20 ≡ false → count_from words before t ≡ counted words (later (parts t))
+  behind : (words before : ℕ) → eqb before 0x20 ≡ true → count_from (words + 1) before t ≡ counted words (parts t)
+
+counts : (t : List ℕ) → Counts t
+unfolding count_from
+counts [] = record { within = λ words before e. simp e (omega arith); behind = λ words before e. simp e }
+counts (c ∷ t) = go (space c) refl (counts t)
+  where
+    go : (b : Bool) → space c ≡ b → Counts t → Counts (c ∷ t)
+    go true q r =
+        record {
+          within = λ words before e. simp (q, e) (r.behind words c q);
+          behind = λ words before e. simp (q, e);
+        }
+    go false q r =
+        record {
+          within = λ words before e. simp (q, later_onto c (parts t)) (r.within words c q);
+          behind = λ words before e. simp (q, counted_onto c words (parts t)) (r.within (words + 1) c q);
+        }
+
+parts_counted : (line : List ℕ) → counted 0 (parts line) ≡ word_count line
+unfolding word_count
+parts_counted line = sym ((counts line).behind 0 0x20 refl)
+
+module _ (line : List ℕ) (t : Bool) (told : t ≡ list_any empty (parts line)) where
+  pub some_empty : t ≡ true → 0 ≡ word_count line
+  some_empty e = simp (sym told ∙ e) at (parts_counted line)
+
+  pub none_empty : (n : ℕ) → t ≡ false → n ≡ length (parts line) → n ≡ word_count line
+  none_empty n e q = omega (arith, q, simp (sym told ∙ e) at (parts_counted line))
+
+-- ---- the part that `nth` gives, or no characters
+pub part_given : (line : List ℕ) (k : ℕ) (given : Option (Bor (List ℕ))) (none word : Bor (List ℕ)) → option_map (λ x. x.now) given ≡ slice_get (parts line) k
+    → none.now ≡ [] → word ≡ unwrap_or given none → word.now ≡ word_at k line
+part_given line k given none word h e q = ap (λ (w : Bor (List ℕ)). w.now) q ∙ go given ∙ ap (λ (p : Option (List ℕ)). unwrap_or p []) h ∙ unwrap_or-slice_get (parts line) k [] ∙ part_word k line
+  where
+    go : (r : Option (Bor (List ℕ))) → (unwrap_or r none).now ≡ unwrap_or (option_map (λ x. x.now) r) []
+    go (Some x) = refl
+    go None = e

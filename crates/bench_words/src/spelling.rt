@@ -4,24 +4,19 @@ ghost use Rattle.std.proofs.lemmas.List.Edits.{sets};
 ghost use Rattle.bench_words.specs.Spelling.{in_capitals, spelling_of, bytes_spelt};
 
 // Puts the bytes that HEX spells at the start of `bytes`, and tells how many they are. More than fit are no HEX of a command.
+#[tactic(auto, using(crate::proofs::Hexes::spells))]
 pub fn spelt(word: &[u8], bytes: &mut [u8]) -> Option<usize>
     ensures number { result ≡ spelling_of word.now (length bytes.old) }
     ensures lent { bytes.new ≡ sets bytes.old 0 (bytes_spelt word.now) }
 {
-    if check::same(word, b"-") {
+    if word == b"-".as_slice() {
         return Some(0);
     }
     if !in_capitals(word) {
         return None;
     }
     let n = hex_pairs::decode(word, bytes);
-    if n == 0 {
-        return None;
-    }
-    if bytes.len() < n {
-        return None;
-    }
-    if 2 * n != word.len() {
+    if n == 0 || bytes.len() < n || 2 * n != word.len() {
         return None;
     }
     Some(n)
@@ -31,22 +26,12 @@ pub fn spelt(word: &[u8], bytes: &mut [u8]) -> Option<usize>
 fn in_capitals(word: &[u8]) -> bool
     ensures { result ≡ in_capitals word.now }
 {
-    let mut i: usize = 0;
-    while i < word.len() {
-        if hex_pairs::capital_of(word[i]) != word[i] {
-            return false;
-        }
-        i += 1;
-    }
-    true
+    word.iter().all(|character| hex_pairs::capital_of(*character) == *character)
 }
 
 // The first `n` bytes, or all where there are fewer.
 pub fn first(bytes: &[u8], n: usize) -> &[u8]
     ensures { result.now ≡ take n bytes.now }
 {
-    if n <= bytes.len() {
-        return &bytes[0..n];
-    }
-    &bytes[0..]
+    &bytes[..n.min(bytes.len())]
 }

@@ -1,12 +1,11 @@
 // Host events. Each is a method that hands back the whole card and its outcome, 0 or 12. A tick and a port's fault touch plant and port: `tick_in` and `parity_fault_in`
 // are lent the two where they lie.
-ghost use Rattle.std.specs.Prelude.{◌≡◌, ◌+◌};
+ghost use Rattle.std.specs.Prelude.{◌≡◌};
 ghost use Rattle.port.specs.Port.{Parity};
-ghost use Rattle.card.specs.State.{with_plant, with_core};
 ghost use Rattle.card.specs.Events.{event_outcome, fault_raised, cause_ended, din1_set, measured_set, parity_told, port_faulted, counted, ticked_in, ticked};
 
 use crate::outcome::Outcome;
-use crate::state::{Card, Port};
+use crate::state::Card;
 use drive::{Measured, Plant};
 use port::{Numbers, PARITY, SIOERR, SUM, TIME_OUT};
 use table::names::SIO_TOT;
@@ -19,20 +18,23 @@ pub struct After {
 }
 
 // The outcome of an event that named a fault: 0, or 12 where there is none of that number.
+#[tactic(auto, unfolding(crate::specs::Events::event_outcome))]
 pub fn event_outcome(known: bool) -> Outcome
     ensures { result ≡ event_outcome known }
 {
     if known {
-        return Outcome::Done;
+        Outcome::Done
+    } else {
+        Outcome::NoSuchEvent
     }
-    Outcome::NoSuchEvent
 }
 
 // A fault of the port: its bit in SioErr, and at MODE 3 flag 14.
+#[tactic(auto, unfolding(crate::specs::Events::port_faulted))]
 fn port_fault(port: &mut Numbers, plant: &mut Plant, bit: u32)
     ensures { record { port = port.new; plant = plant.new } ≡ port_faulted bit (record { port = port.old; plant = plant.old }) }
 {
-    port[SIOERR] = port[SIOERR] | bit;
+    port[SIOERR] |= bit;
     drive::port_fault(plant);
 }
 
@@ -43,14 +45,8 @@ pub fn parity_fault_in(port: &mut Numbers, plant: &mut Plant)
     port_fault(port, plant, PARITY);
 }
 
-// A sum with some tenths more. It is taken in 64 bits, so it cannot wrap.
-fn more(sum: u32, tenths: u32) -> u64
-    ensures { result ≡ sum + tenths }
-{
-    (sum as u64) + (tenths as u64)
-}
-
-// The time sum with some tenths more, up to a limit.
+// The time sum with some tenths more, up to a limit. It is taken in 64 bits, so it cannot wrap.
+#[tactic(auto, unfolding(crate::specs::Events::counted))]
 fn count_to(port: &mut Numbers, plant: &mut Plant, limit: u32, tenths: u32)
     ensures { record { port = port.new; plant = plant.new } ≡ counted limit tenths (record { port = port.old; plant = plant.old }) }
 {
@@ -58,8 +54,8 @@ fn count_to(port: &mut Numbers, plant: &mut Plant, limit: u32, tenths: u32)
         port[SUM] = 0;
         return;
     }
-    let sum = more(port[SUM], tenths);
-    if (limit as u64) < sum {
+    let sum = u64::from(port[SUM]) + u64::from(tenths);
+    if u64::from(limit) < sum {
         port[SUM] = 0;
         port_fault(port, plant, TIME_OUT);
         return;
@@ -68,13 +64,11 @@ fn count_to(port: &mut Numbers, plant: &mut Plant, limit: u32, tenths: u32)
 }
 
 // So many tenths pass on the port: 1 to 250, else 12. Where the sum goes above SioTot a time-out happens.
+#[tactic(auto, unfolding(crate::specs::Events::ticked_in))]
 pub fn tick_in(port: &mut Numbers, plant: &mut Plant, tenths: u32) -> Outcome
     ensures { record { core = record { port = port.new; plant = plant.new }; outcome = result } ≡ ticked_in tenths (record { port = port.old; plant = plant.old }) }
 {
-    if tenths < 1 {
-        return Outcome::NoSuchEvent;
-    }
-    if 250 < tenths {
+    if !(1..=250).contains(&tenths) {
         return Outcome::NoSuchEvent;
     }
     let limit = plant[SIO_TOT];
@@ -84,101 +78,74 @@ pub fn tick_in(port: &mut Numbers, plant: &mut Plant, tenths: u32) -> Outcome
 
 impl Card {
     // The host raises fault n: 1 to 13 or 16 to 23, else 12.
-    pub fn raise_fault(self, n: u32) -> After
+    #[tactic(auto, unfolding(crate::specs::Events::fault_raised, crate::specs::Events::event_on))]
+    pub fn raise_fault(mut self, n: u32) -> After
         ensures { result ≡ fault_raised n self }
     {
-        let mut plant = self.plant;
-        let known = drive::raise_fault(&mut plant, n);
+        let known = drive::raise_fault(&mut self.plant, n);
         After {
-            card: self.with_plant(plant),
+            card: self,
             outcome: event_outcome(known),
         }
     }
 
     // The host ends the cause of fault n: 1 to 13 or 16 to 23, else 12.
-    pub fn end_cause(self, n: u32) -> After
+    #[tactic(auto, unfolding(crate::specs::Events::cause_ended, crate::specs::Events::event_on))]
+    pub fn end_cause(mut self, n: u32) -> After
         ensures { result ≡ cause_ended n self }
     {
-        let mut plant = self.plant;
-        let known = drive::end_cause(&mut plant, n);
+        let known = drive::end_cause(&mut self.plant, n);
         After {
-            card: self.with_plant(plant),
+            card: self,
             outcome: event_outcome(known),
         }
     }
 
     // DIN1 becomes active or inactive.
-    pub fn din1(self, active: bool) -> After
+    #[tactic(auto, unfolding(crate::specs::Events::din1_set))]
+    pub fn din1(mut self, active: bool) -> After
         ensures { result ≡ din1_set active self }
     {
-        let mut plant = self.plant;
-        drive::set_din1(&mut plant, active);
+        drive::set_din1(&mut self.plant, active);
         After {
-            card: self.with_plant(plant),
+            card: self,
             outcome: Outcome::Done,
         }
     }
 
     // FrqAct, I-rms or OpTime is measured.
-    pub fn measure(self, measured: Measured) -> After
+    #[tactic(auto, unfolding(crate::specs::Events::measured_set))]
+    pub fn measure(mut self, measured: Measured) -> After
         ensures { result ≡ measured_set measured self }
     {
-        let mut plant = self.plant;
-        drive::measure(&mut plant, measured);
+        drive::measure(&mut self.plant, measured);
         After {
-            card: self.with_plant(plant),
+            card: self,
             outcome: Outcome::Done,
         }
     }
 
     // The host tells a parity fault: bit 1 of SioErr, and at MODE 3 flag 14.
-    pub fn parity_fault(self) -> After
+    #[tactic(auto, unfolding(crate::specs::Events::parity_told))]
+    pub fn parity_fault(mut self) -> After
         ensures { result ≡ parity_told self }
     {
-        let port = self.port;
-        let mut numbers = port.numbers;
-        let mut plant = self.plant;
-        parity_fault_in(&mut numbers, &mut plant);
+        parity_fault_in(&mut self.port.numbers, &mut self.plant);
         After {
-            card: self.with_core(numbers, plant),
+            card: self,
             outcome: Outcome::Done,
         }
     }
 
     // So many tenths pass: 1 to 250, else 12. Where the sum goes above SioTot a time-out happens.
-    pub fn tick(self, tenths: u32) -> After
+    #[tactic(auto, unfolding(crate::specs::Events::ticked))]
+    pub fn tick(mut self, tenths: u32) -> After
         ensures { result ≡ ticked tenths self }
     {
-        let port = self.port;
-        let mut numbers = port.numbers;
-        let mut plant = self.plant;
-        let outcome = tick_in(&mut numbers, &mut plant, tenths);
+        let outcome = tick_in(&mut self.port.numbers, &mut self.plant, tenths);
         After {
-            card: self.with_core(numbers, plant),
+            card: self,
             outcome,
-        }
-    }
-
-    // The card with another plant.
-    fn with_plant(self, plant: Plant) -> Card
-        ensures { result ≡ with_plant plant self }
-    {
-        let mut card = self;
-        card.plant = plant;
-        card
-    }
-
-    // The card with other numbers in its port, and another plant: the bytes pending and the identity stay.
-    fn with_core(self, numbers: Numbers, plant: Plant) -> Card
-        ensures { result ≡ with_core (record { port = numbers; plant = plant }) self }
-    {
-        let port = self.port;
-        let pending = port.pending;
-        let identity = self.identity;
-        Card {
-            port: Port { pending, numbers },
-            plant,
-            identity,
         }
     }
 }

@@ -22,7 +22,7 @@ pub enum Outcome {
 }
 
 impl Outcome {
-    // Document 01's number.
+    // Document 01's number. A method and no `From`, as `Answer::number` is: `docs/PROMISES.md` names it, and at a call it says which number it is.
     pub fn number(self) -> u32
         ensures { result ≡ outcome_number self }
     {

@@ -8,7 +8,8 @@ ghost use Rattle.clock.specs.Time.{Status, Nanos, natural_of, time_of};
 
 use std::rt::Clock;
 
-// What the clock answered: its status, 0 where it told the time and -1 where not, and the time.
+// What the clock answered: its status, 0 where it told the time and -1 where not, and the time. It is no Option of a time: `time_of` promises an answer
+// for every status, and `monotonic` that its own is one of the two (must-fail/always_told).
 #[derive(Clone, Copy)]
 pub struct Told {
     pub status: i32,
@@ -40,19 +41,17 @@ pub fn monotonic(rt: &impl Clock) -> Told
     Told {
         status: 0,
         seconds,
-        nanoseconds: time.subsec_nanos() as i64,
+        nanoseconds: i64::from(time.subsec_nanos()),
     }
 }
 
 // The time in milliseconds that an answer of these numbers tells: none with a status other than 0, or with seconds past the last. A negative number counts as 0.
+#[tactic(auto, using(base::proofs::Tests::tests), unfolding(crate::specs::Time::time_of))]
 pub fn time_of(status: i32, seconds: i64, nanoseconds: i64) -> Option<u64>
     ensures { result ≡ time_of status seconds nanoseconds }
 {
-    if status != 0 {
-        return None;
-    }
     let whole = natural(seconds);
-    if LAST_SECOND < whole {
+    if status != 0 || LAST_SECOND < whole {
         return None;
     }
     Some(whole * 1000 + natural(nanoseconds) / 1_000_000)
@@ -62,8 +61,5 @@ pub fn time_of(status: i32, seconds: i64, nanoseconds: i64) -> Option<u64>
 fn natural(n: i64) -> u64
     ensures { result ≡ natural_of n }
 {
-    if n >= 0 {
-        return n as u64;
-    }
-    0
+    u64::try_from(n).unwrap_or(0)
 }

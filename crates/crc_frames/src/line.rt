@@ -1,34 +1,63 @@
 // A line of hex, and the CRC of the frame that it spells.
 ghost use Rattle.std.specs.Prelude.{◌≡◌};
-ghost use Rattle.crc_frames.specs.Line.{is_dash, answer_of};
+ghost use Rattle.crc_frames.specs.Line.{answer_of};
 
-// Whether the line is a `-` alone.
-fn is_dash(line: &[u8]) -> bool
-    ensures { result ≡ is_dash line.now }
-{
-    if line.len() != 1 {
-        return false;
+use std::io;
+use std::io::Write;
+
+// The characters of a line as far as it was read, in fixed memory: a length above 1024 says that it is too long.
+#[derive(Drop)]
+pub(crate) struct Line {
+    pub(crate) text: [u8; 1024],
+    pub(crate) len: usize,
+}
+
+impl Line {
+    // One character more.
+    fn add(&mut self, character: u8) {
+        if let Some(place) = self.text.get_mut(self.len) {
+            *place = character;
+        }
+        self.len = self.len.saturating_add(1);
     }
-    line[0] == b'-'
+
+    // Prints the line's CRC, in one write.
+    pub(crate) fn answer<W: Write>(&self, out: &mut W) -> io::Result<()> {
+        let Some(crc) = self.text.get(..self.len).and_then(line_crc) else {
+            return out.write_all(b"?\n");
+        };
+        let mut text = [b'\n'; 5];
+        hex_pairs::encode(&crc.to_be_bytes(), &mut text);
+        out.write_all(&text)
+    }
+
+    // Takes what was read, and answers each line that ends in it.
+    pub(crate) fn feed<W: Write>(&mut self, out: &mut W, scrap: &[u8]) -> io::Result<()> {
+        for character in scrap {
+            if *character == b'\n' {
+                self.answer(out)?;
+                self.len = 0;
+            } else {
+                self.add(*character);
+            }
+        }
+        Ok(())
+    }
 }
 
 // The CRC of the frame that the line spells: `-` for no bytes, or one to 512 pairs of hex digits.
+#[tactic(auto, using(crate::proofs::Laws::answers))]
 pub fn line_crc(line: &[u8]) -> Option<u16>
     ensures { result ≡ answer_of line.now }
 {
-    if is_dash(line) {
-        return Some(checks::crc(&line[0..0]));
+    if line == b"-".as_slice() {
+        return Some(checks::crc(&[]));
     }
     let mut bytes = [0u8; 512];
     let n = hex_pairs::decode(line, &mut bytes);
-    if n == 0 {
+    let frame = bytes.get(..n)?;
+    if frame.is_empty() || 2 * n != line.len() {
         return None;
     }
-    if 512 < n {
-        return None;
-    }
-    if 2 * n != line.len() {
-        return None;
-    }
-    Some(checks::crc(&bytes[0..n]))
+    Some(checks::crc(frame))
 }

@@ -7,95 +7,28 @@
 
 mod line;
 
+use line::Line;
 use std::io;
-use std::io::{Read, Write};
-
-fn print<W: Write>(out: &mut W, answer: Option<u16>) -> io::Result<()> {
-    let Some(crc) = answer else {
-        return out.write_all(b"?\n");
-    };
-    let word = [(crc / 256) as u8, (crc % 256) as u8];
-    let mut text = [b'\n'; 5];
-    hex_pairs::encode(&word, &mut text);
-    out.write_all(&text)
-}
-
-// Answers the line of the first `len` characters of `text`, or one that is longer than `text`.
-fn answer<W: Write>(out: &mut W, text: &[u8; 1024], len: usize) -> io::Result<()> {
-    let characters = &text[..];
-    if len <= characters.len() {
-        print(out, line::line_crc(&characters[0..len]))
-    } else {
-        print(out, None)
-    }
-}
-
-// One character more of a line. A length above 1024 says that the line is too long.
-fn add(text: &mut [u8; 1024], len: usize, character: u8) -> usize {
-    if len < 1024 {
-        text[len] = character;
-        len + 1
-    } else {
-        1025
-    }
-}
-
-// Takes what was read, answers each line that ends in it, and hands back how much of the next there is.
-fn feed<W: Write>(
-    out: &mut W,
-    scrap: &[u8],
-    text: &mut [u8; 1024],
-    len: usize,
-) -> io::Result<usize> {
-    let mut n = len;
-    for character in scrap {
-        if *character == b'\n' {
-            answer(out, text, n)?;
-            n = 0;
-        } else {
-            n = add(text, n, *character);
-        }
-    }
-    Ok(n)
-}
-
-#[derive(Clone, Copy)]
-struct Got {
-    len: usize,
-    more: bool,
-}
-
-fn read_some<R: Read, W: Write>(
-    input: &mut R,
-    out: &mut W,
-    text: &mut [u8; 1024],
-    len: usize,
-) -> io::Result<Got> {
-    let mut scrap = [0u8; 4096];
-    let n = input.read(&mut scrap)?;
-    if n == 0 {
-        return Ok(Got { len, more: false });
-    }
-    Ok(Got {
-        len: feed(out, &scrap[..n], text, len)?,
-        more: true,
-    })
-}
+use std::io::Read;
 
 fn main(rt: HostRuntime) -> io::Result<()> {
     let mut input = rt.stdin();
     let mut out = rt.stdout();
-    let mut text = [0u8; 1024];
-    let mut len: usize = 0;
+    let mut line = Line {
+        text: [0; 1024],
+        len: 0,
+    };
+    let mut scrap = [0u8; 4096];
+    // no `loop`: one that may not end needs the handle Wait, which this repository has none of
     for _ in 0..u64::MAX {
-        let got = read_some(&mut input, &mut out, &mut text, len)?;
-        len = got.len;
-        if !got.more {
+        let n = input.read(&mut scrap)?;
+        if n == 0 {
             break;
         }
+        line.feed(&mut out, &scrap[..n])?;
     }
-    if len > 0 {
-        answer(&mut out, &text, len)?;
+    if line.len > 0 {
+        line.answer(&mut out)?;
     }
     Ok(())
 }

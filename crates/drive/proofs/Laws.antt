@@ -1,43 +1,20 @@
 -- The rules of the drive, case by case: each law's premises are what the code's tests and its callees showed. Assumes nothing.
-use mathlib.Core.Path.{◌≡◌, refl, sym, ap, ◌∙◌}
+use mathlib.Core.Path.{◌≡◌, refl, ap, ◌∙◌}
 use mathlib.Core.Bool.{Bool, true, false, not}
 use mathlib.Core.Logic.{◌⊎◌, inl, inr, ◌≢◌, ⊎_elim}
-use Prim.Native.Nat.{ℕ, ◌-◌, ◌*◌, ◌%◌, ◌^◌, ◌≤◌, ◌<◌}
+use Prim.Native.Nat.{ℕ, ◌*◌, ◌%◌, ◌^◌, ◌<◌}
 use native.Mathlib.Nat.{one-mul, mod-eq_of_lt}
 use native.Mathlib.Omega.{arith}
 use lib.Dec.{eqb, leb}
-use lib.Bits.{bit_or, bit_and}
+use lib.Bits.{bit_or}
 use lib.Pow.{pow-lt}
-use borrow.Author.Tests.{ne_eqb, eqb-false, le-leb, lt-leb, leb-true}
+use borrow.Author.Tests.{ne_eqb, eqb-false, leb-true}
 use Rattle.base.specs.Choice.{both, either}
-use Rattle.base.proofs.Tests.{pick_both, both_out, either_out, either_right}
-use Rattle.drive.specs.declared.events.Measured.{Measured}
-use Rattle.drive.specs.Plant.{Plant, mode, scmd, din1, causes, flags, with_causes}
+use Rattle.base.proofs.Tests.{pick_both, both_out, either_out}
+use Rattle.drive.specs.Plant.{Plant, mode, scmd, din1, flags}
 use Rattle.drive.specs.Flags.{only}
-use Rattle.drive.specs.Status.{active, flag_stands, runs, bit, ready, status_word, righted}
-use Rattle.drive.specs.Faults.{flag_raised}
-use Rattle.drive.specs.Events.{healed, is_fault, raised, ended, switched, with_measured}
-
--- ---- running
-twice : (t : Bool) → t ≡ either (not (not t)) false
-twice true = refl
-twice false = refl
-
-pub runs_auto : (p : Plant) → mode p ≡ 2 → (din1 p ≡ 0 → ⊥) → eqb (flags p) 0 ≡ runs p
-unfolding runs active flag_stands
-runs_auto p m a = simp (m, ne_eqb _ _ a) (twice (eqb (flags p) 0))
-
-pub runs_inactive : (p : Plant) → mode p ≡ 2 → din1 p ≡ 0 → false ≡ runs p
-unfolding runs active
-runs_inactive p m a = simp (m, a)
-
-pub runs_bus : (p : Plant) → mode p ≡ 3 → not (eqb (scmd p) 0) ≡ runs p
-unfolding runs
-runs_bus p m = simp m
-
-pub runs_not : (p : Plant) → (mode p ≡ 2 → ⊥) → (mode p ≡ 3 → ⊥) → false ≡ runs p
-unfolding runs
-runs_not p a b = simp (ne_eqb _ _ a, ne_eqb _ _ b)
+use Rattle.drive.specs.Status.{active, flag_stands, runs, bit, ready, status_word}
+use Rattle.drive.specs.Events.{healed, is_fault}
 
 -- ---- faults
 -- 1 << n
@@ -51,47 +28,6 @@ fault_small n e =
     (λ l. let h = leb-true n 13 (both_out (leb 1 n) (leb n 13) l).1 in omega arith)
     (λ r. let h = leb-true n 23 (both_out (leb 16 n) (leb n 23) r).1 in omega arith)
     (either_out (both (leb 1 n) (leb n 13)) (both (leb 16 n) (leb n 23)) e)
-
-pub fault_shift : (n : ℕ) (b : Bool) → b ≡ is_fault n → b ≡ true → n < 32
-fault_shift n b h e = fault_small n (sym h ∙ e)
-
-pub raised_known : (p q : Plant) (n : ℕ) (b : Bool) → b ≡ is_fault n → b ≡ true → q ≡ flag_raised ((1 * 2 ^ n) % 4294967296) p
-    → record { plant = with_causes (bit_or (causes p) ((1 * 2 ^ n) % 4294967296)) q; known = true } ≡ raised n p
-unfolding raised
-raised_known p q n b h e r = simp (r, bit_is n (fault_shift n b h e), sym h ∙ e)
-
-pub raised_unknown : (p : Plant) (n : ℕ) (b : Bool) → b ≡ is_fault n → b ≡ false → record { plant = p; known = false } ≡ raised n p
-unfolding raised
-raised_unknown p n b h e = simp (sym h ∙ e)
-
-pub ended_known : (p : Plant) (n : ℕ) (b : Bool) → b ≡ is_fault n → b ≡ true
-    → record { plant = with_causes (bit_and (causes p) (4294967295 - (1 * 2 ^ n) % 4294967296)) p; known = true } ≡ ended n p
-unfolding ended
-ended_known p n b h e = simp (bit_is n (fault_shift n b h e), sym h ∙ e)
-
-pub ended_unknown : (p : Plant) (n : ℕ) (b : Bool) → b ≡ is_fault n → b ≡ false → record { plant = p; known = false } ≡ ended n p
-unfolding ended
-ended_unknown p n b h e = simp (sym h ∙ e)
-
-pub fault_low : (n : ℕ) → 1 ≤ n → n < 14 → true ≡ is_fault n
-unfolding is_fault
-fault_low n a b = simp (le-leb 1 n a, le-leb n 13 (omega arith))
-
-pub fault_high : (n : ℕ) → 16 ≤ n → n < 24 → true ≡ is_fault n
-unfolding is_fault
-fault_high n a b = simp (lt-leb n 13 (omega arith), le-leb 16 n a, le-leb n 23 (omega arith)) (sym (either_right (both (leb 1 n) false) true refl))
-
-pub fault_0 : (n : ℕ) → n < 1 → false ≡ is_fault n
-unfolding is_fault
-fault_0 n a = simp (lt-leb 1 n a, lt-leb 16 n (omega arith))
-
-pub fault_between : (n : ℕ) → 14 ≤ n → n < 16 → false ≡ is_fault n
-unfolding is_fault
-fault_between n a b = simp (le-leb 1 n (omega arith), lt-leb n 13 (omega arith), lt-leb 16 n (omega arith))
-
-pub fault_past : (n : ℕ) → 24 ≤ n → false ≡ is_fault n
-unfolding is_fault
-fault_past n a = simp (le-leb 1 n (omega arith), lt-leb n 13 (omega arith), le-leb 16 n (omega arith), lt-leb n 23 (omega arith))
 
 -- ---- SiAdr after a restart: 0 and 95 become 1, and any other number stays
 pub healed_these : (a : ℕ) → (a ≡ 0) ⊎ (a ≡ 95) → healed a ≡ 1
@@ -157,15 +93,3 @@ module _ (p : Plant) (f a : ℕ) (fault : f ≡ bit 3 (not (eqb (flags p) 0))) (
   pub word_other : (mode p ≡ 2 → ⊥) → (mode p ≡ 3 → ⊥) → bit_or f a ≡ status_word p
   unfolding status_word ready runs active flag_stands
   word_other m n = rw (fault, inactive, ne_eqb (mode p) 2 m, ne_eqb (mode p) 3 n) (other_word (eqb (flags p) 0) (eqb (din1 p) 0) (eqb (scmd p) 0))
-
--- ---- the two cases of DIN1
-pub switched_at : (p r : Plant) (active t : Bool) → active ≡ t → r ≡ switched t p → r ≡ switched active p
-switched_at p r active t h q = q ∙ ap (λ (a : Bool). switched a p) (sym h)
-
--- ---- a change, and then the word is made right
-pub right_after : (q r x : Plant) → q ≡ x → r ≡ righted q → r ≡ righted x
-right_after q r x e d = d ∙ ap righted e
-
--- ---- an arm of a `match` on what is measured
-pub measured_at : (p r : Plant) (measured k : Measured) → measured ≡ k → r ≡ with_measured k p → r ≡ with_measured measured p
-measured_at p r measured k h q = q ∙ ap (λ (m : Measured). with_measured m p) (sym h)

@@ -10,6 +10,7 @@ use table::names::SCMD;
 pub(crate) const FLAG_14: u32 = 0x4000;
 
 // These flags stand, and no other. Where they did before, nothing changes.
+#[tactic(auto, unfolding(crate::specs::Faults::reflagged))]
 fn set_flags(plant: &mut Plant, flags: u32)
     ensures { plant.new ≡ reflagged flags plant.old }
 {
@@ -20,6 +21,7 @@ fn set_flags(plant: &mut Plant, flags: u32)
 }
 
 // These flags stand, and SCMD is 0.
+#[tactic(auto, unfolding(crate::specs::Faults::halted))]
 fn halt(plant: &mut Plant, flags: u32)
     ensures { plant.new ≡ halted flags plant.old }
 {
@@ -29,6 +31,7 @@ fn halt(plant: &mut Plant, flags: u32)
 }
 
 // Raises the flags of a mask, which stops the drive.
+#[tactic(auto, unfolding(crate::specs::Faults::flag_raised))]
 pub(crate) fn raise_flags(plant: &mut Plant, mask: u32)
     ensures { plant.new ≡ flag_raised mask plant.old }
 {
@@ -37,6 +40,7 @@ pub(crate) fn raise_flags(plant: &mut Plant, mask: u32)
 }
 
 // Clears the flags whose cause has ended, but not 14.
+#[tactic(auto, unfolding(crate::specs::Faults::acknowledged))]
 pub fn acknowledge(plant: &mut Plant)
     ensures { plant.new ≡ acknowledged plant.old }
 {
@@ -45,6 +49,7 @@ pub fn acknowledge(plant: &mut Plant)
 }
 
 // Clears flag 14.
+#[tactic(auto, unfolding(crate::specs::Faults::without14))]
 pub fn clear_14(plant: &mut Plant)
     ensures { plant.new ≡ without14 plant.old }
 {
@@ -53,6 +58,7 @@ pub fn clear_14(plant: &mut Plant)
 }
 
 // Whether 14 is the only flag.
+#[tactic(auto, unfolding(crate::specs::Faults::only14))]
 pub fn only_14(plant: &Plant) -> bool
     ensures { result ≡ only14 plant.now }
 {
@@ -60,6 +66,7 @@ pub fn only_14(plant: &Plant) -> bool
 }
 
 // What the broadcast stop does: flag 14 is cleared, SCMD is 0.
+#[tactic(auto, unfolding(crate::specs::Faults::stopped))]
 pub fn stop(plant: &mut Plant)
     ensures { plant.new ≡ stopped plant.old }
 {

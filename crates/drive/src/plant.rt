@@ -7,7 +7,8 @@ use crate::status::right_status;
 use table::names::{MB_ADR, MODE, ROWS, SCMD, SI_ADR};
 
 // Each row's word, two's complement, at its line in the table, and behind the rows the numbers that are no rows. Any words are a plant. The lines of Inv
-// St, which is worked out, and of SioErr, which is the port's, hold nothing.
+// St, which is worked out, and of SioErr, which is the port's, hold nothing. It is an array and no struct: C lays it out so (`include/linecard.h`), and a row is one load or
+// one store at its line (`told`, `applied`), where a struct would take a `match` on the row.
 pub type Plant = [u32; 35];
 
 // DIN1: 0 is inactive, any other number active.
@@ -62,6 +63,7 @@ const START: Plant = [
 ];
 
 // A plant at start.
+#[tactic(auto, unfolding(crate::specs::Plant::started, table::specs::Table::start_words, table::specs::Table::rows))]
 pub fn start() -> Plant
     ensures { result ≡ started }
 {
@@ -69,27 +71,25 @@ pub fn start() -> Plant
 }
 
 // SiAdr after a restart: 1 where 0 or 95 was kept from before, for 0 is every card's address and 95 is broadcast. Any other number stays.
+#[tactic(auto, unfolding(crate::specs::Events::healed))]
 fn heal(address: u32) -> u32
     ensures { result ≡ healed address }
 {
-    if address == 0 {
-        return 1;
+    match address {
+        0 | 95 => 1,
+        _ => address,
     }
-    if address == 95 {
-        return 1;
-    }
-    address
 }
 
 // The plant after a restart: MODE 1, SCMD 0, the flags of the standing causes, MbAdr counts from now on, and a SiAdr of 0 or 95 becomes 1. The rest is kept.
+#[tactic(auto, unfolding(crate::specs::Events::restarted))]
 pub fn restart(plant: &mut Plant)
     ensures { plant.new ≡ restarted plant.old }
 {
-    let causes = plant[CAUSES];
     let address = heal(plant[SI_ADR]);
     plant[STATION] = plant[MB_ADR];
     plant[SI_ADR] = address;
-    plant[FLAGS] = causes;
+    plant[FLAGS] = plant[CAUSES];
     plant[SCMD] = 0;
     plant[MODE] = 1;
     right_status(plant);

@@ -1,9 +1,9 @@
 -- What a character is worth, and what it is in capitals, by where it stands among 0-9, A-F and a-f. Assumes nothing.
-use Rattle.std.proofs.Common.{◌≡◌, ℕ, ◌+◌, ◌-◌, ◌%◌, ◌<◌, ◌≤◌, Bool, true, false, leb, sym, refl, ap, ◌∙◌, arith, le-ltb, lt-ltb, le-leb, leb-true, Option, Some, None}
+use Rattle.std.proofs.Common.{◌≡◌, ℕ, ◌+◌, ◌-◌, ◌%◌, ◌<◌, ◌≤◌, Bool, true, false, eqb, eqb-true, leb, List, [], ◌∷◌, get_or, refl, ap, ◌∙◌, arith, le-ltb, lt-ltb, le-leb, leb-true, Option, Some, None}
 use borrow.Author.Tests.{lt-leb}
 use Rattle.base.specs.Choice.{pick, either}
-use Rattle.base.proofs.Arms.{NoneOf, up_from, past}
-use Rattle.base.proofs.Tests.{both_out}
+use Rattle.base.specs.Bytes.{every_below}
+use Rattle.base.proofs.Tests.{both_out, below_at}
 use Rattle.hex_pairs.specs.Hex.{is_numeral, is_capital, is_small, is_hex, digit_value, digit_of, capital_of}
 
 -- ---- by where it stands
@@ -34,31 +34,10 @@ by_kind P c numeral capital small other = go (is_numeral c) (is_capital c) (is_s
     go false false true p q r = let h = both_out (leb 0x61 c) (leb c 0x66) r in small (leb-true 0x61 c h.0) (leb-true c 0x66 h.1)
     go false false false p q r = other
 
--- ---- by the code's tests: n is the character less `0`, m less `A`, s less `a`, modulo 256
-module _ (c n : ℕ) (wraps : (n + 0x30) % 256 ≡ c) where
-  pub value_first : n < 10 → Some n ≡ digit_value c
-  value_first h = let e : n ≡ c - 0x30 = omega arith in ap Some e ∙ value_numeral c (omega arith) (omega arith)
-
-  module _ (over : 10 ≤ n) (byte : n < 256) (m : ℕ) (wraps-too : (m + 0x41) % 256 ≡ c) where
-    pub value_second : m < 6 → Some (m + 10) ≡ digit_value c
-    value_second h = let e : m + 10 ≡ c - 0x41 + 10 = omega arith in ap Some e ∙ value_capital c (omega arith) (omega arith)
-
-    module _ (over-too : 6 ≤ m) (byte-too : m < 256) (s : ℕ) (wraps-again : (s + 0x61) % 256 ≡ c) where
-      pub value_third : s < 6 → Some (s + 10) ≡ digit_value c
-      value_third h = let e : s + 10 ≡ c - 0x61 + 10 = omega arith in ap Some e ∙ value_small c (omega arith) (omega arith)
-
-      pub value_none : 6 ≤ s → s < 256 → None ≡ digit_value c
-      value_none h k =
-          by_kind (λ b d. None ≡ d) c (λ p q. absurd (omega (arith, p, q))) (λ p q. absurd (omega (arith, p, q))) (λ p q. absurd (omega (arith, p, q))) refl
-
 -- ---- in capitals: a-f are A-F, and all else stays
 pub capital_below : (c : ℕ) → c < 0x61 → c ≡ capital_of c
 unfolding capital_of
 capital_below c h = simp (lt-leb 0x61 c h)
-
-pub capital_above : (c : ℕ) → 0x66 < c → c ≡ capital_of c
-unfolding capital_of
-capital_above c h = simp (le-leb 0x61 c (omega arith), lt-leb c 0x66 h)
 
 pub capital_small : (c : ℕ) → 0x61 ≤ c → c ≤ 0x66 → c - 0x20 ≡ capital_of c
 unfolding capital_of
@@ -87,13 +66,12 @@ pub digit_rest : (n : ℕ) → digit_of (n % 16) ≡ digit_of n
 unfolding digit_of
 digit_rest n = let m : n % 16 % 16 ≡ n % 16 = omega arith in simp m
 
--- ---- by the code's arms
-pub digit_at : (k n r : ℕ) → n % 16 ≡ k → r ≡ digit_of k → r ≡ digit_of n
-digit_at k n r e q = q ∙ sym (ap digit_of e) ∙ digit_rest n
+-- ---- by the code's list of digits
+abbrev digits : List ℕ
+digits = 0x30 ∷ 0x31 ∷ 0x32 ∷ 0x33 ∷ 0x34 ∷ 0x35 ∷ 0x36 ∷ 0x37 ∷ 0x38 ∷ 0x39 ∷ 0x41 ∷ 0x42 ∷ 0x43 ∷ 0x44 ∷ 0x45 ∷ 0x46 ∷ []
 
-pub digit_last : (n : ℕ) → NoneOf (n % 16) (up_from 0 15) → 0x46 ≡ digit_of n
+pub digit_listed : (n k : ℕ) → k ≡ n % 16 → get_or digits k 0 ≡ digit_of n
 unfolding digit_of
-digit_last n h =
-    let top : 15 ≤ n % 16 = past 15 0 (n % 16) (omega arith) h in
-    let e : n % 16 ≡ 15 = omega (arith, top) in
-    digit_at 15 n 0x46 e refl
+digit_listed n k e =
+    let all : every_below 16 (λ i. eqb (get_or digits i 0) (digit_of i)) ≡ true = refl in
+    eqb-true (get_or digits k 0) (digit_of k) (below_at 16 (λ i. eqb (get_or digits i 0) (digit_of i)) k all (omega arith)) ∙ ap digit_of e ∙ digit_rest n

@@ -32,10 +32,9 @@ fn no_time(rt: &impl Eprint) -> io::Result<()> {
 fn fail(rt: &impl Eprint, what: &str, error: io::Error) -> io::Result<()> {
     let text = InlineText::<320>::of(error);
     let said = text.as_str();
-    let why = match said.split_once(" (os error ") {
-        Some((words, _)) => words,
-        None => said,
-    };
+    let why = said
+        .split_once(" (os error ")
+        .map_or(said, |(words, _)| words);
     eprintln!(rt; "{what}: {why}")
 }
 
@@ -52,17 +51,11 @@ fn run<R: Clock + Print + Eprint, D: Read + Write>(
     device: &mut D,
     start: u64,
 ) -> io::Result<()> {
-    let card = Card::start(protocol, IDENTITY);
-    let line = card.port;
-    let pending = line.pending;
-    let mut held = pending.bytes;
-    let mut len = pending.len;
-    let mut port = line.numbers;
-    let mut plant = card.plant;
-    let identity = card.identity;
+    let mut card = Card::start(protocol, IDENTITY);
     let mut lines = io::writer(rt);
     let mut scrap = [0u8; 4096];
     let mut last = start;
+    // no `loop`: one that may not end needs the handle Wait, which this repository has none of
     for _ in 0..u64::MAX {
         let n = device.read(&mut scrap).unwrap_or(0);
         if n == 0 {
@@ -72,18 +65,9 @@ fn run<R: Clock + Print + Eprint, D: Read + Write>(
             return no_time(rt);
         };
         let passed = ticks::time_passed(last, now);
-        ticks::hand_over(&mut port, &mut plant, passed.tenths);
+        ticks::hand_over(&mut card.port.numbers, &mut card.plant, passed.tenths);
         last = passed.last;
-        len = session_loop::serve_all(
-            &mut held,
-            len,
-            &mut port,
-            &mut plant,
-            &identity,
-            &scrap[..n],
-            device,
-            &mut lines,
-        )?;
+        session_loop::serve_all(&mut card, &scrap[..n], device, &mut lines)?;
     }
     Ok(())
 }

@@ -10,20 +10,8 @@ use drive::{Measured, Plant};
 use identity::Identity;
 use port::Numbers;
 
-// The protocol that a number stands for.
-fn protocol_of(n: u32) -> Protocol
-    ensures { result ≡ protocol_of n }
-{
-    if n == 1 {
-        return Protocol::Rtu;
-    }
-    if n == 2 {
-        return Protocol::Ascii;
-    }
-    Protocol::Nfo
-}
-
 // A fresh card with the identity that is given: 1 is Modbus RTU, 2 Modbus ASCII, any other number NFO serial. What was in the memory before does not count.
+#[tactic(auto, unfolding(crate::specs::Host::protocol_of, card::specs::State::started, pending::specs::Held::empty))]
 pub fn card_start_in(
     held: &mut [u8; 512],
     len: &mut usize,
@@ -37,40 +25,39 @@ pub fn card_start_in(
 {
     *held = [0u8; 512];
     *len = 0;
-    *port = card::fresh_port(protocol_of(protocol));
+    *port = card::fresh_port(Protocol::from(protocol));
     *plant = drive::start();
     *identity = *given;
 }
 
 // The card restarts, and a SiAdr of 0 or 95 becomes 1. The array of the bytes pending stays as it is; there are none in it then.
+#[tactic(auto, unfolding(card::specs::State::restarted, pending::specs::Held::emptied))]
 pub fn card_restart_in(len: &mut usize, port: &mut Numbers, plant: &mut Plant)
     ensures { Restarts len.old port.old plant.old len.new port.new plant.new }
 {
     *len = 0;
-    let before = *port;
-    *port = card::restarted_port(before);
+    *port = card::restarted_port(*port);
     drive::restart(plant);
 }
 
 // The host raises fault n: 1 to 13 or 16 to 23, else 12.
+#[tactic(auto, unfolding(card::specs::Events::fault_raised, card::specs::Events::event_on))]
 pub fn card_raise_fault_in(plant: &mut Plant, n: u32) -> u32
     ensures { OnPlant (fault_raised n) plant.old plant.new result }
 {
-    let known = drive::raise_fault(plant, n);
-    let outcome = card::event_outcome(known);
-    outcome.number()
+    card::event_outcome(drive::raise_fault(plant, n)).number()
 }
 
 // The host ends the cause of fault n: 1 to 13 or 16 to 23, else 12.
+#[tactic(auto, unfolding(card::specs::Events::cause_ended, card::specs::Events::event_on))]
 pub fn card_end_cause_in(plant: &mut Plant, n: u32) -> u32
     ensures { OnPlant (cause_ended n) plant.old plant.new result }
 {
-    let known = drive::end_cause(plant, n);
-    let outcome = card::event_outcome(known);
-    outcome.number()
+    card::event_outcome(drive::end_cause(plant, n)).number()
 }
 
 // DIN1 becomes inactive, by 0, or active, by any other number.
+#[tactic(auto, unfolding(card::specs::Events::din1_set, crate::specs::Host::active_of))]
 pub fn card_din1_in(plant: &mut Plant, active: u32) -> u32
     ensures { OnPlant (din1_set (active_of active)) plant.old plant.new result }
 {
@@ -79,6 +66,7 @@ pub fn card_din1_in(plant: &mut Plant, active: u32) -> u32
 }
 
 // FrqAct is measured: the low 16 bits of the word.
+#[tactic(auto, unfolding(card::specs::Events::measured_set))]
 pub fn card_frq_act_in(plant: &mut Plant, word: u32) -> u32
     ensures { OnPlant (measured_set (Frq (word % 65536))) plant.old plant.new result }
 {
@@ -87,6 +75,7 @@ pub fn card_frq_act_in(plant: &mut Plant, word: u32) -> u32
 }
 
 // I-rms is measured.
+#[tactic(auto, unfolding(card::specs::Events::measured_set))]
 pub fn card_i_rms_in(plant: &mut Plant, word: u32) -> u32
     ensures { OnPlant (measured_set (Rms word)) plant.old plant.new result }
 {
@@ -95,6 +84,7 @@ pub fn card_i_rms_in(plant: &mut Plant, word: u32) -> u32
 }
 
 // OpTime is measured.
+#[tactic(auto, unfolding(card::specs::Events::measured_set))]
 pub fn card_op_time_in(plant: &mut Plant, word: u32) -> u32
     ensures { OnPlant (measured_set (Optime word)) plant.old plant.new result }
 {
@@ -103,6 +93,7 @@ pub fn card_op_time_in(plant: &mut Plant, word: u32) -> u32
 }
 
 // The host tells a parity fault of the port.
+#[tactic(auto, unfolding(card::specs::Events::parity_told))]
 pub fn card_parity_fault_in(port: &mut Numbers, plant: &mut Plant) -> u32
     ensures { OnPort parity_told port.old plant.old port.new plant.new result }
 {
@@ -111,9 +102,9 @@ pub fn card_parity_fault_in(port: &mut Numbers, plant: &mut Plant) -> u32
 }
 
 // So many tenths pass: 1 to 250, else 12.
+#[tactic(auto, unfolding(card::specs::Events::ticked))]
 pub fn card_tick_in(port: &mut Numbers, plant: &mut Plant, tenths: u32) -> u32
     ensures { OnPort (ticked tenths) port.old plant.old port.new plant.new result }
 {
-    let outcome = card::tick_in(port, plant, tenths);
-    outcome.number()
+    card::tick_in(port, plant, tenths).number()
 }

@@ -7,7 +7,7 @@ ghost use Rattle.base.specs.Buffers.{front};
 ghost use Rattle.master.specs.Sent.{sent_number, sent_of, bytes_sent};
 
 // Why a request is not written.
-#[derive(Clone, Copy)]
+#[derive(Clone, Copy, Debug, PartialEq, Eq)]
 pub enum Unsent {
     // 13: request cannot be said
     CannotBeSaid,

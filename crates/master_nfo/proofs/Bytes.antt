@@ -35,13 +35,20 @@ module _ (adr e w : ℕ) (number value : List ℕ) (p : Spells number e) (v : Sp
   unfolding value_at
   reply_value h = let f = four number e p in let g = four value w v in rw (f.are, g.are) (g.value h)
 
--- the places of one
-module _ (s : List ℕ) (l : length s ≡ 14) (two : get_or s 1 0 ≡ 0x02) (letter : get_or s 2 0 ≡ 0x45) (equals : get_or s 7 0 ≡ 0x3D) (three : get_or s 12 0 ≡ 0x03) where
-  pub reply_placed : get_or s 13 0 ≡ bcc_of (take 11 (drop 2 s)) → s ≡ reply_with (get_or s 0 0) (characters_at 3 s) (characters_at 8 s)
-  reply_placed right =
-      let list : s ≡ places 14 (λ (i : ℕ). get_or s i 0) = placed s 14 l in
-      let check : get_or s 13 0 ≡ bcc_of (take 11 (drop 2 (places 14 (λ (i : ℕ). get_or s i 0)))) = right ∙ ap (λ (t : List ℕ). bcc_of (take 11 (drop 2 t))) list in
-      list ∙ cc
+-- the places of one that are no digits
+pub record Frame (s : List ℕ) : Type 0 where
+  pub adr : fits ADR (get_or s 0 0) ≡ true
+  pub two : get_or s 1 0 ≡ 0x02
+  pub letter : get_or s 2 0 ≡ 0x45
+  pub equals : get_or s 7 0 ≡ 0x3D
+  pub three : get_or s 12 0 ≡ 0x03
+  pub right : get_or s 13 0 ≡ bcc_of (take 11 (drop 2 s))
+
+pub reply_placed : (s : List ℕ) → length s ≡ 14 → Frame s → s ≡ reply_with (get_or s 0 0) (characters_at 3 s) (characters_at 8 s)
+reply_placed s l f =
+    let list : s ≡ places 14 (λ (i : ℕ). get_or s i 0) = placed s 14 l in
+    let check : get_or s 13 0 ≡ bcc_of (take 11 (drop 2 (places 14 (λ (i : ℕ). get_or s i 0)))) = f.right ∙ ap (λ (t : List ℕ). bcc_of (take 11 (drop 2 t))) list in
+    list ∙ cc
 
 -- ---- a REPLY is a SELECT without its 04
 enquiry_apart : (s : List ℕ) → length s ≡ 14 → whole enquiry (0x04 ∷ s) ≡ true → ⊥
@@ -75,16 +82,28 @@ pub record Written (s : List ℕ) (e w : ℕ) : Type 0 where
   pub value : (w < 65536) × Spells (characters_at 8 s) w
   pub same : s ≡ reply_with (get_or s 0 0) (characters_at 3 s) (characters_at 8 s)
 
-pub replied_written : (s : List ℕ) (e : ENumber) (w : ℕ) → replied s ≡ true → parameter_at 2 s ≡ Some e → value_at 8 s ≡ Some w → Written s e.0 w
+-- what has the shape, the check and a number has the frame
+pub replied_frame : (s : List ℕ) (e : ENumber) → replied s ≡ true → parameter_at 2 s ≡ Some e → Frame s
 unfolding replied checked reply
-replied_written s e w h p v =
+replied_frame s e h p =
     let r = both_out (whole reply s) (checked s) h in
-    let q = parameter_out s 2 e p in
     let at : (i : ℕ) → fits (get_or reply i any) (get_or s i 0) ≡ true = λ i. whole_at reply s i r.0 in
     record {
       adr = at 0;
-      number = value_spelt s 3 e.0 q.1;
+      two = eqb-true (get_or s 1 0) 0x02 (at 1);
+      letter = (parameter_out s 2 e p).0;
+      equals = eqb-true (get_or s 7 0) 0x3D (at 7);
+      three = eqb-true (get_or s 12 0) 0x03 (at 12);
+      right = eqb-true (get_or s 13 0) (bcc_of (take 11 (drop 2 s))) r.1;
+    }
+
+pub replied_written : (s : List ℕ) (e : ENumber) (w : ℕ) → replied s ≡ true → parameter_at 2 s ≡ Some e → value_at 8 s ≡ Some w → Written s e.0 w
+unfolding replied reply
+replied_written s e w h p v =
+    let f = replied_frame s e h p in
+    record {
+      adr = f.adr;
+      number = value_spelt s 3 e.0 (parameter_out s 2 e p).1;
       value = value_spelt s 8 w v;
-      same = reply_placed s (whole_length reply s r.0) (eqb-true (get_or s 1 0) 0x02 (at 1)) q.0 (eqb-true (get_or s 7 0) 0x3D (at 7)) (eqb-true (get_or s 12 0) 0x03 (at 12))
-          (eqb-true (get_or s 13 0) (bcc_of (take 11 (drop 2 s))) r.1);
+      same = reply_placed s (whole_length reply s (both_out (whole reply s) (checked s) h).0) f;
     }

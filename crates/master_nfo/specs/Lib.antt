@@ -1,4 +1,3 @@
 pub mod Requests
 pub mod Replies
-pub mod Frame
 pub mod Cases

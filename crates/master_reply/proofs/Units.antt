@@ -1,5 +1,5 @@
 -- What the code's tests and calls show of a reply's unit, and the loop that takes its words, turn by turn. Assumes nothing.
-use Rattle.std.proofs.Common.{Option, None}
+use Rattle.std.proofs.Common.{Option}
 use mathlib.Core.Path.{◌≡◌, refl, sym, ap, ◌∙◌}
 use mathlib.Core.Bool.{true}
 use mathlib.Core.List.{List, ◌∷◌}
@@ -7,7 +7,7 @@ use Prim.Native.Nat.{ℕ, zero, suc, ◌+◌, ◌-◌, ◌*◌, ◌%◌, ◌≤�
 use native.Mathlib.Nat.{sub-zero}
 use native.Mathlib.Numerals.{add-one}
 use native.Mathlib.Omega.{arith}
-use borrow.Author.Tests.{le-leb, lt-leb, eqb-true, leb-true}
+use borrow.Author.Tests.{le-leb, eqb-true, leb-true}
 use lib.Dec.{leb, eqb}
 use lib.ListN.{length, get_or, set, length-set, replicate}
 use lib.Seq.{sets}
@@ -26,14 +26,6 @@ pub reply_read : (a : ℕ) (u : List ℕ) (f b r n : ℕ) (x : Option Reply) →
     → x ≡ unit_tells a (length u) f b r n → x ≡ reply_of a u
 unfolding reply_of
 reply_read a u f b r n x l h p q s o e = simp (le-leb 1 a l, le-leb a 247 h) (rw (← p, ← q, ← s, ← o) e)
-
-pub reply_low : (a : ℕ) (u : List ℕ) → a < 1 → None ≡ reply_of a u
-unfolding reply_of
-reply_low a u h = simp (lt-leb 1 a h)
-
-pub reply_high : (a : ℕ) (u : List ℕ) → 247 < a → None ≡ reply_of a u
-unfolding reply_of
-reply_high a u h = simp (le-leb 1 a (omega arith), lt-leb a 247 h)
 
 -- ---- the words: stores of all that are left would give the whole
 pub words_length : (u : List ℕ) (at n : ℕ) → length (words_from u at n) ≡ n

@@ -22,14 +22,21 @@ pub enum Reply {
     Exception(u8, u8, u8),
 }
 
-// What a master hears, if it is a reply, and the words of the registers that it read. Past these the words are 0.
+// What a master hears, if it is a reply, and the words of the registers that it read, beside it. Past these the words are 0. An array for the most there are, and no `Vec`:
+// the project has no heap.
 #[derive(Clone, Copy)]
 pub struct Heard {
     pub words: [u16; 125],
     pub reply: Option<Reply>,
 }
 
-// Document 01's number: 14 is not a reply.
+// No reply, and no words.
+pub const NO_REPLY: Heard = Heard {
+    words: [0u16; 125],
+    reply: None,
+};
+
+// Document 01's number: 14 is not a reply. `master_nfo` has one of its own: each kind of reply has a definition of its number.
 pub fn number_of(reply: Option<Reply>) -> u32
     ensures { result ≡ reply_number reply }
 {
@@ -40,77 +47,47 @@ pub fn number_of(reply: Option<Reply>) -> u32
 }
 
 // Whether a read is answered by so many register bytes.
+#[tactic(auto, unfolding(crate::specs::Reply::read_count), using(base::proofs::Tests::tests))]
 fn read_count(bytes: u8) -> bool
     ensures { result ≡ read_count bytes }
 {
-    if bytes % 2 != 0 {
-        return false;
-    }
-    if bytes < 2 {
-        return false;
-    }
-    bytes <= 250
+    bytes % 2 == 0 && (2..=250).contains(&bytes)
 }
 
 // Whether a unit of `size` bytes is the answer to a 03 or 04.
+#[tactic(auto, unfolding(crate::specs::Reply::tells_data), using(base::proofs::Tests::tests))]
 fn tells_data(size: usize, function: u8, bytes: u8) -> bool
     ensures { result ≡ tells_data size function bytes }
 {
-    if function < 3 {
-        return false;
-    }
-    if 4 < function {
-        return false;
-    }
-    if !read_count(bytes) {
-        return false;
-    }
-    size == (bytes as usize) + 2
+    matches!(function, 3 | 4) && read_count(bytes) && size == usize::from(bytes) + 2
 }
 
 // Whether it is the answer to a 06.
+#[tactic(auto, unfolding(crate::specs::Reply::tells_one), using(base::proofs::Tests::tests))]
 fn tells_one(size: usize, function: u8) -> bool
     ensures { result ≡ tells_one size function }
 {
-    if function != 6 {
-        return false;
-    }
-    size == 5
+    function == 6 && size == 5
 }
 
 // Whether it is the answer to a 16.
+#[tactic(auto, unfolding(crate::specs::Reply::tells_many), using(base::proofs::Tests::tests))]
 fn tells_many(size: usize, function: u8, count: u16) -> bool
     ensures { result ≡ tells_many size function count }
 {
-    if function != 16 {
-        return false;
-    }
-    if size != 5 {
-        return false;
-    }
-    if count < 1 {
-        return false;
-    }
-    count <= 123
+    function == 16 && size == 5 && (1..=123).contains(&count)
 }
 
 // Whether it is an exception.
+#[tactic(auto, unfolding(crate::specs::Reply::tells_exception), using(base::proofs::Tests::tests))]
 fn tells_exception(size: usize, function: u8, code: u8) -> bool
     ensures { result ≡ tells_exception size function code }
 {
-    if function < 0x80 {
-        return false;
-    }
-    if size != 2 {
-        return false;
-    }
-    if code < 1 {
-        return false;
-    }
-    code <= 4
+    0x80 <= function && size == 2 && (1..=4).contains(&code)
 }
 
 // What a unit of `size` bytes tells, by its function, the byte and the word behind that, and the word behind this.
+#[tactic(auto, unfolding(crate::specs::Reply::unit_tells), using(base::proofs::Tests::tests))]
 fn unit_tells(
     address: u8,
     size: usize,
@@ -122,39 +99,32 @@ fn unit_tells(
     ensures { result ≡ unit_tells address size function second register number }
 {
     if tells_data(size, function, second) {
-        return Some(Reply::Data(address, function, (second / 2) as usize));
+        Some(Reply::Data(address, function, usize::from(second / 2)))
+    } else if tells_one(size, function) {
+        Some(Reply::One(address, Register(register), number))
+    } else if tells_many(size, function, number) {
+        Some(Reply::Many(address, Register(register), number))
+    } else if tells_exception(size, function, second) {
+        Some(Reply::Exception(address, function, second))
+    } else {
+        None
     }
-    if tells_one(size, function) {
-        return Some(Reply::One(address, Register(register), number));
-    }
-    if tells_many(size, function, number) {
-        return Some(Reply::Many(address, Register(register), number));
-    }
-    if tells_exception(size, function, second) {
-        return Some(Reply::Exception(address, function, second));
-    }
-    None
 }
 
 // What a unit from an address tells.
+#[tactic(auto, unfolding(crate::specs::Reply::reply_of), using(base::proofs::Tests::tests))]
 fn reply_of(address: u8, unit: &[u8]) -> Option<Reply>
     ensures { result ≡ reply_of address unit.now }
 {
-    if address < 1 {
+    if !(1..=247).contains(&address) {
         return None;
     }
-    if 247 < address {
-        return None;
-    }
-    let function = byte_at(unit, 0);
-    let second = byte_at(unit, 1);
-    let register = word_at(unit, 1);
     unit_tells(
         address,
         unit.len(),
-        function,
-        second,
-        register,
+        byte_at(unit, 0),
+        byte_at(unit, 1),
+        word_at(unit, 1),
         word_at(unit, 3),
     )
 }
@@ -175,10 +145,8 @@ fn words_in(unit: &[u8], count: usize) -> [u16; 125]
     ensures { result ≡ front (words_from unit.now 2 count) (replicate 125 0) }
 {
     let mut words = [0u16; 125];
-    let mut i: usize = 0;
-    while i < count {
+    for i in 0..count {
         words[i] = word_at(unit, 2 * i + 2);
-        i += 1;
     }
     words
 }

@@ -1,5 +1,5 @@
 -- What a Modbus master asks: what of it can be said, and its data unit, byte by byte. Assumes nothing.
-use Rattle.std.specs.Prelude.{Bool, List, [], ◌∷◌, ◌++◌, ℕ, ◌/◌, ◌%◌, leb, eqb, length, replicate}
+use Rattle.std.specs.Prelude.{Bool, List, ◌∷◌, ◌++◌, ℕ, ◌/◌, ◌%◌, leb, eqb, length, replicate, Option, Some, None}
 use Rattle.base.specs.Choice.{pick, both}
 use Rattle.base.specs.Buffers.{front}
 use Rattle.table.specs.declared.labels.Register.{Register}
@@ -38,10 +38,10 @@ request_unit (Input first count) registers = head_of 4 first count
 request_unit (One register word) registers = head_of 6 register word
 request_unit (Many first) registers = many_unit first registers
 
--- the address and the data unit; none where it cannot be said
-unfoldable pub body_said : ℕ → Ask → List ℕ → List ℕ
-body_said address ask registers = pick (sayable address ask (length registers)) (address ∷ request_unit ask registers) []
-
 -- bytes in an array, 0 past them
 abbrev pub body_with : List ℕ → Body
 body_with bytes = record { bytes = front bytes (replicate 256 0); size = length bytes }
+
+-- the address and the data unit; none where it cannot be said
+unfoldable pub body_said : ℕ → Ask → List ℕ → Option Body
+body_said address ask registers = pick (sayable address ask (length registers)) (Some (body_with (address ∷ request_unit ask registers))) None

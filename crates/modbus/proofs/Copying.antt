@@ -5,7 +5,10 @@ use Prim.Native.Nat.{ℕ, suc, ◌+◌, ◌≤◌, ◌<◌}
 use native.Mathlib.Numerals.{add-one}
 use native.Mathlib.Omega.{arith}
 use lib.ListN.{length, drop, get_or, set, length-set, drop_of_length-le}
-use lib.Seq.{sets, drop-cons}
+use lib.Seq.{sets, set_out, drop-cons}
+
+-- a store past the end changes nothing
+pub ruleset past = (set_out)
 
 -- stores of all bytes left would give the whole
 pub record Copying (bytes out₀ out : List ℕ) (at i : ℕ) : Type 0 where
@@ -26,9 +29,6 @@ copy_again bytes out₀ out r at i k h e =
           let n : at + (i + 1) ≡ suc (at + i) = omega arith in
           rw (e, n, add-one) (sym (ap (sets out (at + i)) (drop-cons bytes i 0 h)) ∙ k.left);
     }
-
-pub copy_behind : (bytes out₀ out : List ℕ) (at i : ℕ) → Copying bytes out₀ out at i → length bytes ≤ i → at + i ≡ at + length bytes
-copy_behind bytes out₀ out at i k h = omega (arith, k.passed)
 
 pub copy_stores : (bytes out₀ out : List ℕ) (at i : ℕ) → Copying bytes out₀ out at i → length bytes ≤ i → out ≡ sets out₀ at bytes
 copy_stores bytes out₀ out at i k h = rw (drop_of_length-le bytes h) at k.left

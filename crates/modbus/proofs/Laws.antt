@@ -5,9 +5,9 @@ use mathlib.Core.List.{List}
 use Prim.Native.Nat.{ℕ, ◌+◌, ◌*◌, ◌≤◌, ◌<◌}
 use native.Mathlib.Omega.{arith}
 use lib.ListN.{length, get_or}
-use borrow.Author.Tests.{lt-leb, le-leb, eq-eqb, ne_eqb, eqb-false}
+use borrow.Author.Tests.{eq-eqb, ne_eqb, eqb-false}
 use lib.Dec.{eqb, leb}
-use Rattle.base.specs.Choice.{pick, both, either}
+use Rattle.base.specs.Choice.{both, either}
 use Rattle.base.proofs.Tests.{both_false, pick_both}
 use Rattle.modbus_words.specs.Words.{word_at}
 use Rattle.modbus.specs.Request.{label, span, reads, writes, asked, asked_of, identifying, numbering, request_of}
@@ -24,40 +24,22 @@ read_known f l h = go (eqb f 3) refl
 
 module _ (n f a b x : ℕ) where
   -- 03 and 04
-  read_case : 3 ≤ f → f < 5 → (t : Bool) → reads n b ≡ t → pick t (Read f (label a) b) (Malformed f) ≡ asked n f a b x
-  unfolding asked
-  read_case l h t e = rw (read_known f l h, e)
-
   pub asked_read : 3 ≤ f → f < 5 → (t : Bool) → t ≡ reads n b → t ≡ true → Read f (label a) b ≡ asked n f a b x
-  asked_read l h t e k = read_case l h true (sym e ∙ k)
-
-  pub asked_unread : 3 ≤ f → f < 5 → (t : Bool) → t ≡ reads n b → t ≡ false → Malformed f ≡ asked n f a b x
-  asked_unread l h t e k = read_case l h false (sym e ∙ k)
+  unfolding asked
+  asked_read l h t e k = rw (read_known f l h, sym e ∙ k)
 
   -- 06
   pub asked_one : f ≡ 6 → n ≡ 5 → One (label a) b ≡ asked n f a b x
   unfolding asked
   asked_one k h = rw (k, h)
 
-  pub asked_not_one : f ≡ 6 → (n ≡ 5 → ⊥) → Malformed 6 ≡ asked n f a b x
-  unfolding asked
-  asked_not_one k h = rw (k, ne_eqb n 5 h)
-
   -- 16
   pub asked_many : f ≡ 16 → (t : Bool) → t ≡ writes n b x → t ≡ true → Many (label a) b (span 6 (6 + 2 * b)) ≡ asked n f a b x
   unfolding asked
   asked_many k t e h = rw (k, sym e ∙ h)
 
-  pub asked_not_many : f ≡ 16 → (t : Bool) → t ≡ writes n b x → t ≡ false → Malformed 16 ≡ asked n f a b x
-  unfolding asked
-  asked_not_many k t e h = rw (k, sym e ∙ h)
-
-  -- any other function
-  pub asked_below : f < 3 → Unknown f ≡ asked n f a b x
-  unfolding asked
-  asked_below l = simp (ne_eqb f 3 (λ e. omega arith), ne_eqb f 4 (λ e. omega arith), ne_eqb f 6 (λ e. omega arith), ne_eqb f 16 (λ e. omega arith))
-
-  pub asked_above : 5 ≤ f → (f ≡ 6 → ⊥) → (f ≡ 16 → ⊥) → Unknown f ≡ asked n f a b x
+  -- any other function above these
+  asked_above : 5 ≤ f → (f ≡ 6 → ⊥) → (f ≡ 16 → ⊥) → Unknown f ≡ asked n f a b x
   unfolding asked
   asked_above l m o = simp (ne_eqb f 3 (λ e. omega arith), ne_eqb f 4 (λ e. omega arith), ne_eqb f 6 m, ne_eqb f 16 o)
 
@@ -70,58 +52,9 @@ writes_none : (n b x : ℕ) → n < 5 → writes n b x ≡ false
 unfolding writes
 writes_none n b x h = rw (ne_eqb n (6 + 2 * b) (λ e. omega arith), both_false (eqb x (2 * b)), both_false (both (leb 1 b) (leb b 123)))
 
-asked_few : (n f a b x : ℕ) → n < 5 → asked n f 0 0 0 ≡ asked n f a b x
+pub asked_few : (n f a b x : ℕ) → n < 5 → asked n f 0 0 0 ≡ asked n f a b x
 unfolding asked
 asked_few n f a b x h = simp (reads_none n 0 h, reads_none n b h, writes_none n 0 0 h, writes_none n b x h, ne_eqb n 5 (λ e. omega arith))
-
--- 43, type 14, by its code
-abbrev known : ℕ → Bool
-known code = either (eqb code 1) (either (eqb code 2) (eqb code 4))
-
-known_low : (code : ℕ) → 1 ≤ code → code < 3 → known code ≡ true
-known_low code l h = go (eqb code 1) refl
-  where
-    go : (t : Bool) → eqb code 1 ≡ t → either t (either (eqb code 2) (eqb code 4)) ≡ true
-    go true e = refl
-    go false e = let other : code ≡ 1 → ⊥ = eqb-false code 1 e in rw (eq-eqb code 2 (omega arith))
-
-known_none : (code : ℕ) → (code ≡ 1 → ⊥) → (code ≡ 2 → ⊥) → (code ≡ 4 → ⊥) → known code ≡ false
-known_none code h k l = simp (ne_eqb code 1 h, ne_eqb code 2 k, ne_eqb code 4 l)
-
-module _ (n kind code object : ℕ) where
-  -- no type byte
-  pub identifying_short : n < 2 → Malformed 43 ≡ identifying n kind code object
-  unfolding identifying
-  identifying_short h = simp (lt-leb 2 n h, ne_eqb n 4 (λ e. omega arith))
-
-  -- another type
-  pub identifying_other : 2 ≤ n → (kind ≡ 14 → ⊥) → Unknown 43 ≡ identifying n kind code object
-  unfolding identifying
-  identifying_other h k = simp (le-leb 2 n h, ne_eqb kind 14 k)
-
-  typed : kind ≡ 14 → pick (both (eqb n 4) (known code)) (Identify code object) (Malformed 43) ≡ identifying n kind code object
-  unfolding identifying
-  typed k = rw (k, both_false (leb 2 n))
-
-  -- another length
-  pub identifying_long : kind ≡ 14 → (n ≡ 4 → ⊥) → Malformed 43 ≡ identifying n kind code object
-  identifying_long k h = rw (ne_eqb n 4 h) at (typed k)
-
-  sized : kind ≡ 14 → n ≡ 4 → (t : Bool) → known code ≡ t → pick t (Identify code object) (Malformed 43) ≡ identifying n kind code object
-  sized k h t e = rw (eq-eqb n 4 h, e) at (typed k)
-
-  -- codes 01 and 02; code 04; any other
-  pub identifying_low : kind ≡ 14 → n ≡ 4 → 1 ≤ code → code < 3 → Identify code object ≡ identifying n kind code object
-  identifying_low k h l m = sized k h true (known_low code l m)
-
-  pub identifying_four : kind ≡ 14 → n ≡ 4 → code ≡ 4 → Identify code object ≡ identifying n kind code object
-  identifying_four k h e = sized k h true (rw e)
-
-  pub identifying_below : kind ≡ 14 → n ≡ 4 → code < 1 → Malformed 43 ≡ identifying n kind code object
-  identifying_below k h l = sized k h false (known_none code (λ e. omega arith) (λ e. omega arith) (λ e. omega arith))
-
-  pub identifying_above : kind ≡ 14 → n ≡ 4 → 3 ≤ code → (code ≡ 4 → ⊥) → Malformed 43 ≡ identifying n kind code object
-  identifying_above k h l m = sized k h false (known_none code (λ e. omega arith) (λ e. omega arith) m)
 
 -- ---- what holds of each kind of request holds of what a unit asks
 pub asked_all : (Q : Request → Type 0) (n f a k m : ℕ) → Q (Read f (label a) k) → Q (One (label a) k) → Q (Many (label a) k (span 6 (6 + 2 * k))) → ((g : ℕ) → Q (Malformed g))
@@ -145,9 +78,6 @@ module _ (u : List ℕ) where
   pub request_read : (f a b x : ℕ) (r : Request) → f ≡ get_or u 0 0 → a ≡ word_at u 1 → b ≡ word_at u 3 → x ≡ get_or u 5 0 → r ≡ asked (length u) f a b x → r ≡ asked_of u
   unfolding asked_of
   request_read f a b x r p q s o e = rw (← p, ← q, ← s, ← o) e
-
-  pub request_few : (f : ℕ) (r : Request) → f ≡ get_or u 0 0 → length u < 5 → r ≡ asked (length u) f 0 0 0 → r ≡ asked_of u
-  request_few f r p h e = request_read f (word_at u 1) (word_at u 3) (get_or u 5 0) r p refl refl refl (e ∙ asked_few (length u) f (word_at u 1) (word_at u 3) (get_or u 5 0) h)
 
 -- ---- a request that is not unknown
 abbrev pub NotUnknown : Request → Type 0

@@ -2,11 +2,11 @@
 use mathlib.Core.Path.{◌≡◌, refl, sym, ap, ◌∙◌}
 use mathlib.Core.Bool.{Bool, true, false}
 use mathlib.Core.List.{List, [], ◌∷◌, ◌++◌, append_assoc}
-use Prim.Native.Nat.{ℕ, suc, ◌+◌, ◌-◌, ◌≤◌, ◌<◌, min, max}
+use Prim.Native.Nat.{ℕ, zero, suc, ◌+◌, ◌-◌, ◌≤◌, ◌<◌, min, max}
 use native.Mathlib.Omega.{arith}
 use borrow.Author.Tests.{leb-true, leb-false}
 use lib.Dec.{leb}
-use lib.ListN.{length, drop, length-append, length-take}
+use lib.ListN.{length, take, drop, get_or, length-append, length-take}
 use Rattle.base.specs.Choice.{pick, both}
 use Rattle.base.specs.Bytes.{AllBelow, Bytes}
 use Rattle.base.proofs.Lists.{below_append, below_take, below_drop}
@@ -54,6 +54,15 @@ chosen_count first last k (o ∷ os) h = go (leb first o.number) refl (leb o.num
 pub objects_count : (first last : ℕ) (i : Identity) → length (chosen first last (objects i)) ≡ min (suc last) 7 - first
 objects_count first last i = omega (arith, chosen_count first last 0 (objects i) (refl, (refl, (refl, (refl, (refl, (refl, (refl, tt))))))))
 
+-- the number at a place
+numbered_at : (k j : ℕ) (os : List Object) (d : Object) → Numbered k os → j < length os → (get_or os j d).number ≡ k + j
+numbered_at k j [] d n h = absurd (omega arith)
+numbered_at k zero (o ∷ os) d n h = omega (arith, n.0)
+numbered_at k (suc j) (o ∷ os) d n h = omega (arith, numbered_at (suc k) j os d n.1 (omega arith))
+
+pub object_number : (k : ℕ) (i : Identity) (d : Object) → k < 7 → (get_or (objects i) k d).number ≡ k
+object_number k i d h = omega (arith, numbered_at 0 k (objects i) d (refl, (refl, (refl, (refl, (refl, (refl, (refl, tt))))))) h)
+
 -- ---- how long
 -- two bytes for each, and its text
 abbrev lengths : List Object → ℕ
@@ -75,10 +84,25 @@ chosen_less first last (o ∷ os) = go (within first last o) (chosen_less first 
     go true h = omega arith
     go false h = omega arith
 
+told_less : (first last : ℕ) (os : List Object) → length (told first last os) ≤ lengths os
+told_less first last os = omega (arith, listed_length (chosen first last os), chosen_less first last os)
+
 -- "the revision 17 characters, the model 8": 17, 17, 9 and 8 of text
-pub told_short : (first last : ℕ) (i : Identity) → length (told first last (objects i)) ≤ 65
+objects_short : (i : Identity) → lengths (objects i) ≤ 65
 unfolding revision model
-told_short first last i = omega (arith, listed_length (chosen first last (objects i)), chosen_less first last (objects i), length-take 17 i, length-take 8 (drop 17 i))
+objects_short i = omega (arith, length-take 17 i, length-take 8 (drop 17 i))
+
+pub told_short : (first last : ℕ) (i : Identity) → length (told first last (objects i)) ≤ 65
+told_short first last i = omega (arith, told_less first last (objects i), objects_short i)
+
+-- those before a place, and the one there
+lengths_step : (os : List Object) (k : ℕ) (d : Object) → k < length os → lengths (take k os) + 2 + length (get_or os k d).text ≤ lengths os
+lengths_step [] k d h = absurd (omega arith)
+lengths_step (o ∷ os) zero d h = omega arith
+lengths_step (o ∷ os) (suc k) d h = let ih : lengths (take k os) + 2 + length (get_or os k d).text ≤ lengths os = lengths_step os k d (omega arith) in omega (arith, ih)
+
+pub told_room : (first last k : ℕ) (i : Identity) (d : Object) → k < 7 → length (told first last (take k (objects i))) + 2 + length (get_or (objects i) k d).text ≤ 65
+told_room first last k i d h = omega (arith, told_less first last (take k (objects i)), lengths_step (objects i) k d h, objects_short i)
 
 -- ---- bytes
 -- an object whose number and length are bytes, as its text is

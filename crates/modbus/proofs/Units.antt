@@ -6,12 +6,12 @@ use native.Mathlib.Omega.{arith}
 use mir.Syntax.{w64}
 use mir.Val.{Fits}
 use lib.Bits.{or_lt}
-use lib.ListN.{length, drop, set, length-set, length-take}
-use lib.Seq.{sets, length-sets}
+use lib.ListN.{length, drop, set, length-take}
+use lib.Seq.{sets}
 use borrow.Rule.Slice.PartMut.{mid_of, put_mid}
 use Rattle.base.specs.Bytes.{AllBelow, Bytes}
 use Rattle.base.proofs.Lists.{below_take, below_drop}
-use Rattle.base.proofs.Sets.{sets_out, sets_rest, headed}
+use Rattle.base.proofs.Sets.{sets_out, headed}
 use Rattle.identity.specs.Identity as Identities
 use Rattle.identity.specs.declared.Part.{Part}
 use Rattle.identity.specs.declared.Part.TheVariants.{Objects, Serial}
@@ -96,17 +96,9 @@ short_fits answer n e = omega (arith, short_most answer)
 pub body_count : (n : ℕ) (unit : List ℕ) → n ≡ length unit → n + 1 ≡ suc (length unit)
 body_count n unit e = omega arith
 
--- the slice after the store of the address; its part from j on comes back as l, as stores made it, and the slice is as long as it was
+-- the slice after the store of the address; its part from j on comes back as l, as stores made it
 abbrev Behind : ℕ → List ℕ → List ℕ → List ℕ → Type 0
 Behind j headed unit l = l ≡ sets (mid_of j (length headed - j) headed) 0 unit
-
-pub body_kept : (address j : ℕ) (unit before l : List ℕ) → j ≤ 1 → (length before ≡ 0 → ⊥) → Behind j (set before 0 address) unit l
-    → length (put_mid j (length (set before 0 address) - j) (set before 0 address) l) ≡ length before
-body_kept address j unit before l h some e =
-    ap (λ (y : List ℕ). length (put_mid j (length (set before 0 address) - j) (set before 0 address) y)) e
-    ∙ ap length (sets_rest j (set before 0 address) unit (omega (arith, length-set before 0 address)))
-    ∙ length-sets (set before 0 address) j unit
-    ∙ length-set before 0 address
 
 -- nothing is stored in a slice of no bytes
 pub body_none : (address : ℕ) (unit before now : List ℕ) → length before ≡ 0 → now ≡ sets before 0 unit → now ≡ sets before 0 (address ∷ unit)
@@ -134,12 +126,6 @@ module _ (i : Identities.Identity) (answer : Answer) (part : Part) (is : answer 
   unfolding unit_of
   same = rw is refl
 
-  pub part_told : (n : ℕ) → n ≡ length (Identities.part_unit i part) → n ≡ length (unit_of i answer)
-  part_told = as_told i answer (Identities.part_unit i part) same
-
-  pub part_stored : (before now : List ℕ) → now ≡ sets before 0 (Identities.part_unit i part) → now ≡ sets before 0 (unit_of i answer)
-  part_stored = as_stored i answer (Identities.part_unit i part) same
-
   pub part_told_behind : (n : ℕ) → n ≡ length (Identities.part_unit i part) → n + 1 ≡ suc (length (unit_of i answer))
   part_told_behind = as_told_behind i answer (Identities.part_unit i part) same
 
@@ -148,12 +134,6 @@ module _ (i : Identities.Identity) (answer : Answer) (part : Part) (is : answer 
   part_stored_behind = as_stored_behind i answer (Identities.part_unit i part) same
 
 module _ (i : Identities.Identity) (answer : Answer) (is : Short answer) where
-  pub short_told : (n : ℕ) → n ≡ length (short_of answer) → n ≡ length (unit_of i answer)
-  short_told = as_told i answer (short_of answer) (short_unit i answer is)
-
-  pub short_stored : (before now : List ℕ) → now ≡ sets before 0 (short_of answer) → now ≡ sets before 0 (unit_of i answer)
-  short_stored = as_stored i answer (short_of answer) (short_unit i answer is)
-
   pub short_told_behind : (n : ℕ) → n ≡ length (short_of answer) → n + 1 ≡ suc (length (unit_of i answer))
   short_told_behind = as_told_behind i answer (short_of answer) (short_unit i answer is)
 

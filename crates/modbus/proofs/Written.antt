@@ -1,57 +1,40 @@
 -- What the writer of a card's identity stores: each object that is asked for, one after the other, and the parts that are told. Assumes nothing.
-use mathlib.Core.Path.{◌≡◌, sym, ap, ◌∙◌}
-use mathlib.Core.List.{List, [], ◌∷◌, ◌++◌, append-nil}
-use Prim.Native.Nat.{ℕ, ◌+◌, ◌-◌, ◌≤◌, ◌<◌}
+use mathlib.Core.Path.{◌≡◌, refl, sym, ap, ap₂, ◌∙◌}
+use mathlib.Core.Logic.{◌⊎◌, inl, inr}
+use mathlib.Core.List.{List, [], ◌∷◌, ◌++◌, append-nil, map}
+use Prim.Native.Nat.{ℕ, ◌+◌, ◌≤◌, ◌<◌}
+use native.Mathlib.Numerals.{add-one}
 use native.Mathlib.Omega.{arith}
+use denote.Bor.{Bor}
 use borrow.Author.Tests.{lt-leb, le-leb}
-use lib.ListN.{length, take, drop, length-append}
-use lib.Seq.{sets}
+use lib.ListN.{length, take, drop, get_or, get_or-map, length-append}
+use lib.Seq.{sets, take-suc, take_all}
 use Rattle.base.proofs.Sets.{sets_append}
 use Rattle.identity.specs.Identity.{Identity, Object, object, objects, serial, chosen, listed, objects_unit, part_unit}
 use Rattle.identity.specs.declared.Part.{Part}
 use Rattle.identity.specs.declared.Part.TheVariants.{Objects, Serial}
-use Rattle.modbus.proofs.Objects.{told, told_append, objects_count}
+use Rattle.modbus.proofs.Objects.{told, told_append, told_room, object_number}
 use Rattle.modbus.proofs.Copying.{case_count, case_stores}
-
--- ---- how many are asked for
-module _ (first last : ℕ) (i : Identity) where
-  pub count_none : last < first → 0 ≡ length (chosen first last (objects i))
-  count_none h = omega (arith, objects_count first last i)
-
-  pub count_past : 6 < first → 0 ≡ length (chosen first last (objects i))
-  count_past h = omega (arith, objects_count first last i)
-
-  pub count_rest : 6 < last → first ≤ 6 → 6 - first + 1 ≡ length (chosen first last (objects i))
-  count_rest h k = omega (arith, objects_count first last i)
-
-  pub count_run : first ≤ last → last ≤ 6 → last - first + 1 ≡ length (chosen first last (objects i))
-  count_run h k = omega (arith, objects_count first last i)
 
 -- ---- one object, or nothing of it
 module _ (first last n : ℕ) (text : List ℕ) where
-  none_below : n < first → told first last (object n text ∷ []) ≡ []
-  unfolding chosen listed
-  none_below h = simp (lt-leb first n h)
+  abbrev pub Outside : Type 0
+  Outside = (n < first) ⊎ ((first ≤ n) × (last < n))
 
-  none_above : first ≤ n → last < n → told first last (object n text ∷ []) ≡ []
+  outside : Outside → told first last (object n text ∷ []) ≡ []
   unfolding chosen listed
-  none_above h k = simp (le-leb first n h, lt-leb n last k)
+  outside (inl h) = simp (lt-leb first n h)
+  outside (inr h) = simp (le-leb first n h.0, lt-leb n last h.1)
 
   here : first ≤ n → n ≤ last → told first last (object n text ∷ []) ≡ n ∷ length text ∷ text
   unfolding chosen listed
   here h k = simp (le-leb first n h, le-leb n last k, append-nil)
 
-  pub below_behind : (at : ℕ) → n < first → at ≡ at + length (told first last (object n text ∷ []))
-  below_behind at h = rw (none_below h) (omega arith)
+  pub outside_behind : (at : ℕ) → Outside → at ≡ at + length (told first last (object n text ∷ []))
+  outside_behind at h = rw (outside h) (omega arith)
 
-  pub below_lent : (out : List ℕ) (at : ℕ) → n < first → out ≡ sets out at (told first last (object n text ∷ []))
-  below_lent out at h = rw (none_below h)
-
-  pub above_behind : (at : ℕ) → first ≤ n → last < n → at ≡ at + length (told first last (object n text ∷ []))
-  above_behind at h k = rw (none_above h k) (omega arith)
-
-  pub above_lent : (out : List ℕ) (at : ℕ) → first ≤ n → last < n → out ≡ sets out at (told first last (object n text ∷ []))
-  above_lent out at h k = rw (none_above h k)
+  pub outside_lent : (out : List ℕ) (at : ℕ) → Outside → out ≡ sets out at (told first last (object n text ∷ []))
+  outside_lent out at h = rw (outside h)
 
   pub here_behind : (at body r : ℕ) → first ≤ n → n ≤ last → body ≡ at + 2 → r ≡ body + length text → r ≡ at + length (told first last (object n text ∷ []))
   here_behind at body r h k e g = rw (here h k) (omega arith)
@@ -60,55 +43,72 @@ module _ (first last n : ℕ) (text : List ℕ) where
       → two ≡ sets out at (told first last (object n text ∷ []))
   here_lent out one two at body h k p e g = rw (here h k, g, p, e) (sym (sets_append (n ∷ length text ∷ []) text out at))
 
--- ---- one after the other; the premises stand in the order of the calls, in which `search` meets them soonest
--- an object, then others
-module _ (first last : ℕ) (o : Object) (ps : List Object) (out one two : List ℕ) (at a r : ℕ)
-    (x : one ≡ sets out at (told first last (o ∷ []))) (h : a ≡ at + length (told first last (o ∷ [])))
-    (y : two ≡ sets one a (told first last ps)) (k : r ≡ a + length (told first last ps)) where
-  pub two_behind : r ≡ at + length (told first last (o ∷ ps))
-  two_behind = omega (arith, ap length (told_append first last (o ∷ []) ps), length-append (told first last (o ∷ [])) (told first last ps))
+-- ---- one after the other, behind the seven bytes
+none : Object
+none = object 0 []
 
-  pub two_lent : two ≡ sets out at (told first last (o ∷ ps))
-  two_lent = rw (told_append first last (o ∷ []) ps, y, x, h) (sym (sets_append (told first last (o ∷ [])) (told first last ps) out at))
+-- those before k stand there
+pub record Listing (first last : ℕ) (i : Identity) (out₀ out : List ℕ) (at k : ℕ) : Type 0 where
+  pub passed : k ≤ 7
+  pub behind : at ≡ 7 + length (told first last (take k (objects i)))
+  pub stored : out ≡ sets out₀ 7 (told first last (take k (objects i)))
 
--- two, then others
-module _ (first last : ℕ) (o p : Object) (qs : List Object) (out one two three : List ℕ) (at a b r : ℕ)
-    (x : one ≡ sets out at (told first last (o ∷ []))) (h : a ≡ at + length (told first last (o ∷ [])))
-    (y : two ≡ sets one a (told first last (p ∷ []))) (k : b ≡ a + length (told first last (p ∷ [])))
-    (z : three ≡ sets two b (told first last qs)) (l : r ≡ b + length (told first last qs)) where
-  rest_behind : r ≡ a + length (told first last (p ∷ qs))
-  rest_behind = two_behind first last p qs one two three a b r y k z l
+pub list_starts : (first last : ℕ) (i : Identity) (out : List ℕ) (at : ℕ) → at ≡ 7 → Listing first last i out out at 0
+unfolding chosen listed
+list_starts first last i out at h = record { passed = omega arith; behind = h; stored = refl }
 
-  rest_lent : three ≡ sets one a (told first last (p ∷ qs))
-  rest_lent = two_lent first last p qs one two three a b r y k z l
+-- the texts are the objects' own, in their order
+abbrev pub Texts : List (Bor (List ℕ)) → Identity → Type 0
+Texts texts i = map (λ (t : Bor (List ℕ)). t.now) texts ≡ map (λ (o : Object). o.text) (objects i)
 
-  pub three_behind : r ≡ at + length (told first last (o ∷ p ∷ qs))
-  three_behind = two_behind first last o (p ∷ qs) out one three at a r x h rest_lent rest_behind
+module _ (first last k : ℕ) (i : Identity) (texts : List (Bor (List ℕ))) (empty : Bor (List ℕ)) (same : Texts texts i) (e : empty.now ≡ []) (h : k < 7) where
+  abbrev pub text : List ℕ
+  text = (get_or texts k empty).now
 
-  pub three_lent : three ≡ sets out at (told first last (o ∷ p ∷ qs))
-  three_lent = two_lent first last o (p ∷ qs) out one three at a r x h rest_lent rest_behind
+  text_at : (get_or (objects i) k none).text ≡ text
+  unfolding none
+  text_at =
+      sym (get_or-map (λ (o : Object). o.text) (objects i) k none)
+      ∙ ap₂ (λ (l : List (List ℕ)) (d : List ℕ). get_or l k d) (sym same) (sym e)
+      ∙ get_or-map (λ (t : Bor (List ℕ)). t.now) texts k empty
+
+  next : told first last (take (k + 1) (objects i)) ≡ told first last (take k (objects i)) ++ told first last (object k text ∷ [])
+  next =
+      let one : get_or (objects i) k none ≡ object k text = ap₂ object (object_number k i none h) text_at in
+      rw (add-one, take-suc (objects i) k none h, one) (told_append first last (take k (objects i)) (object k text ∷ []))
+
+  module _ (out₀ out : List ℕ) (at : ℕ) (l : Listing first last i out₀ out at k) where
+    pub list_room : at + 2 + length text ≤ 255
+    list_room = omega (arith, l.behind, told_room first last k i none h, ap length text_at)
+
+    pub list_again : (now : List ℕ) (behind : ℕ) → behind ≡ at + length (told first last (object k text ∷ [])) → now ≡ sets out at (told first last (object k text ∷ []))
+        → Listing first last i out₀ now behind (k + 1)
+    list_again now behind p q =
+        let before : List ℕ = told first last (take k (objects i)) in
+        let this : List ℕ = told first last (object k text ∷ []) in
+        record {
+          passed = omega arith;
+          behind = omega (arith, l.behind, ap length next, length-append before this);
+          stored = rw (q, l.stored, l.behind, next) (sym (sets_append before this out₀ 7));
+        }
 
 -- ---- the parts
--- 43: seven bytes, the objects up to 02h, and the others
-module _ (i : Identity) (code first last n : ℕ) (out one two three : List ℕ) (a b r : ℕ)
+-- 43: seven bytes, and all objects
+module _ (i : Identity) (code first last n k : ℕ) (out one two : List ℕ) (at : ℕ)
     (c : (j : Identity) → n ≡ length (chosen first last (objects j)))
-    (x : one ≡ sets out 0 (0x2B ∷ 0x0E ∷ code ∷ 0x82 ∷ 0x00 ∷ 0x00 ∷ n ∷ [])) (h : a ≡ 7)
-    (y : two ≡ sets one a (told first last (take 3 (objects i)))) (k : b ≡ a + length (told first last (take 3 (objects i))))
-    (z : three ≡ sets two b (told first last (drop 3 (objects i)))) (l : r ≡ b + length (told first last (drop 3 (objects i)))) where
-  all : told first last (objects i) ≡ told first last (take 3 (objects i)) ++ told first last (drop 3 (objects i))
-  all = told_append first last (take 3 (objects i)) (drop 3 (objects i))
+    (x : one ≡ sets out 0 (0x2B ∷ 0x0E ∷ code ∷ 0x82 ∷ 0x00 ∷ 0x00 ∷ n ∷ [])) (l : Listing first last i one two at k) (h : 7 ≤ k) where
+  all : told first last (take k (objects i)) ≡ told first last (objects i)
+  all = ap (told first last) (take_all k (objects i) h)
 
-  pub objects_behind : r ≡ length (part_unit i (Objects code first last))
+  pub objects_behind : at ≡ length (part_unit i (Objects code first last))
   unfolding part_unit objects_unit
-  objects_behind = omega (arith, ap length all, length-append (told first last (take 3 (objects i))) (told first last (drop 3 (objects i))))
+  objects_behind = omega (arith, l.behind, ap length all)
 
-  pub objects_lent : three ≡ sets out 0 (part_unit i (Objects code first last))
+  pub objects_lent : two ≡ sets out 0 (part_unit i (Objects code first last))
   unfolding part_unit objects_unit
   objects_lent =
       let head : List ℕ = 0x2B ∷ 0x0E ∷ code ∷ 0x82 ∷ 0x00 ∷ 0x00 ∷ n ∷ [] in
-      let v = told first last (take 3 (objects i)) in
-      let w = told first last (drop 3 (objects i)) in
-      rw (all, ← (c i), z, k, y, h, x) (sym (sets_append head (v ++ w) out 0 ∙ sets_append v w (sets out 0 head) 7))
+      rw (l.stored, all, ← (c i), x) (sym (sets_append head (told first last (objects i)) out 0))
 
 -- 17: two bytes, and the serial number
 module _ (i : Identity) (out one two : List ℕ) (a r : ℕ)

@@ -2,10 +2,12 @@
 ghost use Rattle.std.specs.Prelude.{◌≡◌, ◌+◌, ◌≤◌, length, set};
 ghost use Rattle.std.proofs.lemmas.List.Edits.{sets};
 
-// A store that leaves the slice alone where it lies past the end.
+// A store that leaves the slice alone where it lies past the end, as hex_pairs has it: a public one in a crate below both would be longer than the two.
+#[tactic(auto, using(crate::proofs::Copying::past))]
 fn put(slice: &mut [u8], at: usize, byte: u8)
     ensures { slice.new ≡ set slice.old at byte }
 {
+    // no `get_mut`: after it a proof knows the slice's length and none of its bytes
     if at < slice.len() {
         slice[at] = byte;
     }
@@ -17,10 +19,8 @@ pub(crate) fn copy_at(bytes: &[u8], out: &mut [u8], at: usize) -> usize
     ensures behind { result ≡ at + length bytes.now }
     ensures lent { out.new ≡ sets out.old at bytes.now }
 {
-    let mut i: usize = 0;
-    while i < bytes.len() {
-        put(out, at + i, bytes[i]);
-        i += 1;
+    for (i, byte) in bytes.iter().enumerate() {
+        put(out, at + i, *byte);
     }
-    at + i
+    at + bytes.len()
 }

@@ -25,56 +25,41 @@ pub enum Answer {
 
 // Puts the data unit of an answer that is no part of the identity at the start of `out`, as far as it fits, and tells its length: 6 bytes at most. Of a part of the identity
 // it puts nothing.
+#[tactic(auto, unfolding(crate::specs::Answer::short_of, modbus_words::specs::Words::word_bytes, modbus_words::specs::Words::long_bytes))]
 fn put_short(answer: Answer, out: &mut [u8]) -> usize
     ensures count { result ≡ length (short_of answer) }
     ensures lent { out.new ≡ sets out.old 0 (short_of answer) }
 {
     match answer {
         Answer::Word(function, word) => {
-            let unit = [function, 2, (word / 256) as u8, (word % 256) as u8];
-            copy_at(&unit, out, 0)
+            let [high, low] = word.to_be_bytes();
+            copy_at(&[function, 2, high, low], out, 0)
         }
         Answer::Long(function, value) => {
-            let low = value % 65536;
-            let high = value / 65536;
-            let unit = [
-                function,
-                4,
-                (low / 256) as u8,
-                (low % 256) as u8,
-                (high / 256) as u8,
-                (high % 256) as u8,
-            ];
-            copy_at(&unit, out, 0)
+            // the low word first
+            let [c, d, a, b] = value.to_be_bytes();
+            copy_at(&[function, 4, a, b, c, d], out, 0)
         }
         Answer::Echo(function, register, number) => {
-            let at = register.0;
-            let unit = [
-                function,
-                (at / 256) as u8,
-                (at % 256) as u8,
-                (number / 256) as u8,
-                (number % 256) as u8,
-            ];
-            copy_at(&unit, out, 0)
+            let [a, b] = register.0.to_be_bytes();
+            let [c, d] = number.to_be_bytes();
+            copy_at(&[function, a, b, c, d], out, 0)
         }
         Answer::Identity(_) => 0,
-        Answer::Exception(function, code) => {
-            let unit = [function | 0x80, code];
-            copy_at(&unit, out, 0)
-        }
+        Answer::Exception(function, code) => copy_at(&[function | 0x80, code], out, 0),
     }
 }
 
 // Puts the answer's data unit at the start of `out`, as far as it fits, and tells its length.
+#[tactic(auto, unfolding(crate::specs::Answer::unit_of, crate::specs::Answer::short_of))]
 pub fn put_unit(answer: Answer, identity: &Identity, out: &mut [u8]) -> usize
     ensures count { result ≡ length (unit_of identity.now answer) }
     ensures lent { out.new ≡ sets out.old 0 (unit_of identity.now answer) }
 {
-    if let Answer::Identity(part) = answer {
-        return put_part(part, identity, out);
+    match answer {
+        Answer::Identity(part) => put_part(part, identity, out),
+        _ => put_short(answer, out),
     }
-    put_short(answer, out)
 }
 
 // Puts the address and, behind it, the answer's data unit at the start of `reply`, as far as they fit, and tells how many bytes these are. A part of the identity is long, and
@@ -83,7 +68,7 @@ pub fn put_body(address: u8, answer: Answer, identity: &Identity, reply: &mut [u
     ensures count { result ≡ length (address ∷ unit_of identity.now answer) }
     ensures lent { reply.new ≡ sets reply.old 0 (address ∷ unit_of identity.now answer) }
 {
-    if reply.len() == 0 {
+    if reply.is_empty() {
         return put_unit(answer, identity, reply) + 1;
     }
     reply[0] = address;

@@ -93,9 +93,9 @@ module _ (st a : ℕ) (q : Request) (u : List ℕ) (t : Bool) (reaches : t ≡ r
     unfolding task_of
     task_one_none r w g e d h = simp (to_us, e, both_false (to_all a), sym d ∙ h)
 
-    pub task_one : (r : Register) (w : ℕ) (g : Option Row) (row : Row) → q ≡ One r w → g ≡ row_of_span r.0 1 → g ≡ Some row → Write row w ≡ task_of st a q u
+    pub task_one : (r : Register) (w v : ℕ) (g : Option Row) (row : Row) → q ≡ One r w → g ≡ row_of_span r.0 1 → g ≡ Some row → v ≡ w → Write row v ≡ task_of st a q u
     unfolding task_of
-    task_one r w g row e d h = simp (to_us, e, both_false (to_all a), sym d ∙ h)
+    task_one r w v g row e d h k = rw k (simp (to_us, e, both_false (to_all a), sym d ∙ h))
 
     -- 16
     pub task_many_none : (r : Register) (n : ℕ) (place : Span) (g : Option Row) → q ≡ Many r n place → g ≡ row_of_span r.0 n → g ≡ None → Say (Answers.Refused Refusals.NoRow) ≡ task_of st a q u

@@ -15,7 +15,8 @@ use modbus::Request;
 use port::Numbers;
 use table::{Register, Row};
 
-// What a unit asks of the plant: a row is to tell its word, or to hold a value; or nothing, and this is to be said.
+// What a unit asks of the plant: a row is to tell its word, or to hold a value; or nothing, and this is to be said. An enum and no closure: the definition `task_of` names it, and a function
+// may hand out no closure that is boxed.
 #[derive(Clone, Copy)]
 enum Task {
     Tell(Row),
@@ -50,16 +51,15 @@ pub fn serve(plant: &mut Plant, port: &mut Numbers, address: u8, unit: &[u8]) ->
 }
 
 // Whether the address is ours or broadcast.
+#[tactic(auto, unfolding(crate::specs::Serve::reaches_us), using(base::proofs::Tests::tests))]
 fn reaches_us(station: u32, address: u8) -> bool
     ensures { result ≡ reaches_us station address }
 {
-    if address == 0 {
-        return true;
-    }
-    (address as u32) == station
+    address == 0 || u32::from(address) == station
 }
 
 // What a request asks of the plant, or the first of the refusals 1, 9, 1, 8, 2 that applies.
+#[tactic(auto, using(crate::proofs::Laws::task_other, crate::proofs::Laws::task_read_all, crate::proofs::Laws::task_read_none, crate::proofs::Laws::task_read, crate::proofs::Laws::task_one_none, crate::proofs::Laws::task_one, crate::proofs::Laws::task_many_none, crate::proofs::Laws::task_many, crate::proofs::Laws::task_identify, crate::proofs::Laws::task_serial, crate::proofs::Laws::task_malformed_all, crate::proofs::Laws::task_malformed, crate::proofs::Laws::task_unknown))]
 fn task_of(station: u32, address: u8, request: Request, unit: &[u8]) -> Task
     ensures { result ≡ task_of station address request unit.now }
 {
@@ -67,10 +67,8 @@ fn task_of(station: u32, address: u8, request: Request, unit: &[u8]) -> Task
         return Task::Say(Answer::NotOurs);
     }
     match request {
+        Request::Read(_, _, _) if address == 0 => Task::Say(Answer::NotOurs),
         Request::Read(_, first, count) => {
-            if address == 0 {
-                return Task::Say(Answer::NotOurs);
-            }
             let Some(row) = first.span(count) else {
                 return Task::Say(Answer::Refused(Refusal::NoRow));
             };
@@ -80,7 +78,7 @@ fn task_of(station: u32, address: u8, request: Request, unit: &[u8]) -> Task
             let Some(row) = register.span(1) else {
                 return Task::Say(Answer::Refused(Refusal::NoRow));
             };
-            Task::Write(row, word as u32)
+            Task::Write(row, u32::from(word))
         }
         Request::Many(first, count, place) => {
             let Some(row) = first.span(count) else {
@@ -93,12 +91,10 @@ fn task_of(station: u32, address: u8, request: Request, unit: &[u8]) -> Task
             identity::objects_asked(code, object),
         ),
         Request::Serial => part_task(address, Some(Part::Serial)),
-        Request::Malformed(function) => {
-            if broadcast_read(address, function) {
-                return Task::Say(Answer::NotOurs);
-            }
-            Task::Say(Answer::Refused(Refusal::Malformed))
+        Request::Malformed(function) if broadcast_read(address, function) => {
+            Task::Say(Answer::NotOurs)
         }
+        Request::Malformed(_) => Task::Say(Answer::Refused(Refusal::Malformed)),
         Request::Unknown(_) => Task::Say(Answer::Refused(Refusal::NoFunction)),
     }
 }
@@ -117,29 +113,19 @@ fn part_task(address: u8, named: Option<Part>) -> Task
 }
 
 // Whether a function is a read: 03, 04, 17 or 43.
+#[tactic(auto, using(base::proofs::Tests::tests))]
 fn is_read(function: u8) -> bool
     ensures { result ≡ reading function }
 {
-    if function == 3 {
-        return true;
-    }
-    if function == 4 {
-        return true;
-    }
-    if function == 17 {
-        return true;
-    }
-    function == 43
+    matches!(function, 3 | 4 | 17 | 43)
 }
 
 // Whether a read came to all.
+#[tactic(auto, using(base::proofs::Tests::tests))]
 fn broadcast_read(address: u8, function: u8) -> bool
     ensures { result ≡ both (to_all address) (reading function) }
 {
-    if address != 0 {
-        return false;
-    }
-    is_read(function)
+    address == 0 && is_read(function)
 }
 
 // The row is told or written, with refusals 3 to 7; or nothing changes, and this is said.
@@ -183,12 +169,7 @@ fn head_of(request: Request) -> Head
             register: Register(0),
             number: 0,
         },
-        Request::Malformed(function) => Head {
-            function,
-            register: Register(0),
-            number: 0,
-        },
-        Request::Unknown(function) => Head {
+        Request::Malformed(function) | Request::Unknown(function) => Head {
             function,
             register: Register(0),
             number: 0,
@@ -205,10 +186,7 @@ fn reply_to(address: u8, head: Head, answer: Answer) -> Option<modbus::Answer>
     }
     match answer {
         Answer::Told(row, word) => Some(registers(head.function, row, word)),
-        Answer::Written(_) => {
-            let register = head.register;
-            Some(modbus::Answer::Echo(head.function, register, head.number))
-        }
+        Answer::Written(_) => Some(modbus::Answer::Echo(head.function, head.register, head.number)),
         Answer::Identified(part) => Some(modbus::Answer::Identity(part)),
         Answer::NotOurs => None,
         Answer::Refused(refusal) => Some(modbus::Answer::Exception(
@@ -223,23 +201,20 @@ fn registers(function: u8, row: Row, word: u32) -> modbus::Answer
     ensures { result ≡ registers_told function row word }
 {
     if row.width() == 2 {
-        return modbus::Answer::Long(function, word);
+        modbus::Answer::Long(function, word)
+    } else {
+        modbus::Answer::Word(function, (word % 65536) as u16)
     }
-    modbus::Answer::Word(function, (word % 65536) as u16)
 }
 
-// The exception's number.
+// The exception's number. A function and no `From<Refusal> for u8`: that would stand in `answers`, beside document 01's number.
 fn exception_of(refusal: Refusal) -> u8
     ensures { result ≡ exception_of refusal }
 {
     match refusal {
-        Refusal::NoRow => 2,
-        Refusal::ReadOnly => 2,
-        Refusal::NotAllowed => 3,
-        Refusal::FlagStands => 4,
-        Refusal::Running => 4,
-        Refusal::NotPermitted => 4,
-        Refusal::Malformed => 3,
         Refusal::NoFunction => 1,
+        Refusal::NoRow | Refusal::ReadOnly => 2,
+        Refusal::NotAllowed | Refusal::Malformed => 3,
+        Refusal::FlagStands | Refusal::Running | Refusal::NotPermitted => 4,
     }
 }

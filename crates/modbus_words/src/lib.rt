@@ -9,25 +9,29 @@ ghost use Rattle.modbus_words.specs.Words.{word_at, long_at};
 pub fn byte_at(bytes: &[u8], at: usize) -> u8
     ensures { result ≡ get_or bytes.now at 0 }
 {
-    if at < bytes.len() { bytes[at] } else { 0 }
+    bytes.get(at).copied().unwrap_or(0)
 }
 
 // The word at a place, high byte first. Bytes past the end count as 0.
+#[tactic(auto, unfolding(crate::specs::Words::word_at))]
 pub fn word_at(bytes: &[u8], at: usize) -> u16
     ensures { result ≡ word_at bytes.now at }
 {
+    // every place can be read, the last there is too: only behind this test does the place of the next byte fit
     if bytes.len() <= at {
         return 0;
     }
-    256 * (byte_at(bytes, at) as u16) + (byte_at(bytes, at + 1) as u16)
+    u16::from_be_bytes([byte_at(bytes, at), byte_at(bytes, at + 1)])
 }
 
 // The 32-bit value at a place, low word first. Bytes past the end count as 0, so the last register of a unit is its own word.
+#[tactic(auto, unfolding(crate::specs::Words::long_at, crate::specs::Words::word_at))]
 pub fn long_at(bytes: &[u8], at: usize) -> u32
     ensures { result ≡ long_at bytes.now at }
 {
+    // every place can be read, the last there is too: only behind this test does the place of the next byte fit
     if bytes.len() <= at {
         return 0;
     }
-    (word_at(bytes, at) as u32) + 65536 * (word_at(bytes, at + 2) as u32)
+    u32::from(word_at(bytes, at)) + 65536 * u32::from(word_at(bytes, at + 2))
 }

@@ -1,11 +1,11 @@
 -- What a scan makes of one byte. Of what is pending only the count, the byte at place 2 and, at the end of a SELECT, the bytes of the BCC
 -- are looked at. Where a beginning is pending, this is document 01's stream call (the law `scan_is`). Any other bits are taken for a
 -- beginning by the same count and byte, and are dropped where they are more than the shape has. Assumes nothing.
-use Rattle.std.specs.Prelude.{Bool, true, false, not, List, ℕ, suc, ◌+◌, eqb, ltb, length, get_or}
+use Rattle.std.specs.Prelude.{Bool, true, false, List, ℕ, suc, eqb, ltb, length, get_or}
 use Rattle.base.specs.Choice.{pick, both}
 use Rattle.pending.specs.declared.Pending.{Pending}
 use Rattle.pending.specs.Held.{held, emptied, pushed, began_with}
-use Rattle.pending.specs.Scanning.{Feeding, Scan}
+use Rattle.pending.specs.Scanning.{Feeding}
 use Rattle.nfo.specs.Shape.{Kind, any, fits}
 use Rattle.nfo.specs.Message.{enquiry, select, bcc_in}
 use Rattle.nfo.specs.declared.scanning.Step.{Step}
@@ -50,24 +50,6 @@ ends p b = ends_by (step_after p b) (eqb b (bcc_in p.bytes))
 
 unfoldable pub fed : Pending → ℕ → Pending
 fed p b = next_by (step_after p b) (eqb b (bcc_in p.bytes)) p b
-
--- b spoils what is pending. Where nothing is, there is nothing to spoil
-abbrev pub spoils_by : Step → Bool → ℕ → Bool
-spoils_by Keeps right n = false
-spoils_by Ends right n = false
-spoils_by Checks right n = not right
-spoils_by Spoils right n = not (eqb n 0)
-
-unfoldable pub spoils : Pending → ℕ → Bool
-spoils p b = spoils_by (step_after p b) (eqb b (bcc_in p.bytes)) p.len
-
--- one turn of the scan, where i bytes were used before: a byte that spoils is not used, but looked at again where nothing is pending
-abbrev pub turned_by : Bool → Pending → ℕ → ℕ → Scan
-turned_by true p i b = record { pending = emptied p; used = i; taken = false }
-turned_by false p i b = record { pending = fed p b; used = i + 1; taken = ends p b }
-
-unfoldable pub turned : Pending → ℕ → ℕ → Scan
-turned p i b = turned_by (spoils p b) p i b
 
 abbrev pub feeding : Feeding
 feeding = record { ends = ends; next = fed; message = held }

@@ -5,5 +5,5 @@
 mod message;
 mod replies;
 
-pub use message::{Message, read_message};
+pub use message::{Message, read_message, value_of};
 pub use replies::{ack, nak, reply};

@@ -1,5 +1,5 @@
 // Taking a message apart.
-ghost use Rattle.std.specs.Prelude.{◌≡◌, ◌+◌, ◌*◌, ◌<◌};
+ghost use Rattle.std.specs.Prelude.{◌≡◌};
 ghost use Rattle.nfo_parts.specs.Parts.{value_at, parameter_at, message_of};
 
 use table::ENumber;
@@ -23,6 +23,7 @@ pub enum Message {
 // place:    0  1   2  3       7 8  9    12 13 14
 // ENQUIRY:  04 ADR p  p p p p 05
 // SELECT:   04 ADR 02 p p p p p 3D v v v v 03 BCC
+#[tactic(auto, unfolding(crate::specs::Parts::parameter_at, crate::specs::Parts::value_at, crate::specs::Parts::message_of))]
 pub fn read_message(m: &[u8; 512]) -> Message
     ensures { result ≡ message_of m.now }
 {
@@ -30,45 +31,39 @@ pub fn read_message(m: &[u8; 512]) -> Message
     if m[2] == 0x02 {
         return Message::Select {
             adr,
-            parameter: parameter_at(m, 3),
-            value: value_at(m, 9),
+            parameter: parameter_of([m[3], m[4], m[5], m[6], m[7]]),
+            value: value_of([m[9], m[10], m[11], m[12]]),
         };
     }
     Message::Enquiry {
         adr,
-        parameter: parameter_at(m, 2),
+        parameter: parameter_of([m[2], m[3], m[4], m[5], m[6]]),
     }
 }
 
-fn parameter_at(m: &[u8; 512], at: usize) -> Option<ENumber>
-    requires { at < 500 }
-    ensures { result ≡ parameter_at at m.now }
+// The E number that a parameter's five characters name.
+#[tactic(auto, unfolding(crate::specs::Parts::parameter_at, crate::specs::Parts::value_at))]
+fn parameter_of(text: [u8; 5]) -> Option<ENumber>
+    ensures { result ≡ parameter_at 0 text }
 {
-    if m[at] != b'E' {
+    let [letter, a, b, c, d] = text;
+    if letter != b'E' {
         return None;
     }
-    let Some(e) = value_at(m, at + 1) else {
-        return None;
-    };
-    Some(ENumber(e))
+    value_of([a, b, c, d]).map(ENumber)
 }
 
-fn value_at(m: &[u8; 512], at: usize) -> Option<u16>
-    requires { at < 504 }
-    ensures { result ≡ value_at at m.now }
+// The word that four hex digits spell, the high one first.
+#[tactic(auto, unfolding(crate::specs::Parts::value_at))]
+pub fn value_of(digits: [u8; 4]) -> Option<u16>
+    ensures { result ≡ value_at 0 digits }
 {
-    let Some(high) = hex_pairs::pair_value(m[at], m[at + 1]) else {
+    let [a, b, c, d] = digits;
+    let Some(high) = hex_pairs::pair_value(a, b) else {
         return None;
     };
-    let Some(low) = hex_pairs::pair_value(m[at + 2], m[at + 3]) else {
+    let Some(low) = hex_pairs::pair_value(c, d) else {
         return None;
     };
-    Some(word(high, low))
-}
-
-// Two bytes as a word, the high one first.
-fn word(high: u8, low: u8) -> u16
-    ensures { result ≡ 256 * high + low }
-{
-    256 * (high as u16) + (low as u16)
+    Some(u16::from_be_bytes([high, low]))
 }

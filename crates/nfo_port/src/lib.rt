@@ -1,4 +1,4 @@
-// NFO serial on the card's port: `receive` reads a scrap, serves the first message taken and replies to it. The card's parts are lent where they lie;
+// NFO serial on the card's port: `receive` reads a scrap, serves the first message taken and replies to it. The card's parts are lent where they lie, as C lends them;
 // its identity is none of them, for no message of NFO serial asks for it.
 #![tactic(auto)]
 
@@ -21,6 +21,7 @@ use turn::{Turned, after_message, nothing_taken, short_buffer};
 
 // Reads bytes as NFO serial, serves the first message taken, and puts its reply at the start of `reply`, which has 19 bytes at least.
 // The caller hands the unused rest again first.
+#[tactic(auto, using(base::proofs::Sets::front_none), unfolding(crate::specs::Receive::nfo_received, turn::specs::Turn::waiting))]
 pub fn receive(
     held: &mut [u8; 512],
     len: usize,
@@ -43,6 +44,7 @@ pub fn receive(
 }
 
 // A message is taken: it is served and replied to.
+#[tactic(auto, using(base::proofs::Sets::fitting_all, crate::proofs::Laws::reply_short), unfolding(turn::specs::Turn::card_after, pending::specs::Held::emptied))]
 fn take(
     held: &[u8; 512],
     port: &mut Numbers,

@@ -16,6 +16,7 @@ use table::names::{SCMD, SI_ADR};
 use table::{ENumber, Row};
 
 // Serves a message: an ENQUIRY tells a row, a SELECT writes one. A refusal changes nothing.
+#[tactic(auto, unfolding(crate::specs::Serve::served))]
 pub fn serve(plant: &mut Plant, port: &mut Numbers, message: Message) -> Answer
     ensures { record { plant = plant.new; port = port.new; answer = result } ≡ served plant.old port.old message }
 {
@@ -30,45 +31,37 @@ pub fn serve(plant: &mut Plant, port: &mut Numbers, message: Message) -> Answer
 }
 
 // Whether ADR is ours: SiAdr or 0, but for 95, which is broadcast.
+#[tactic(auto, unfolding(crate::specs::Serve::to_us))]
 fn to_us(plant: &Plant, adr: u8) -> bool
     ensures { result ≡ to_us plant.now adr }
 {
-    if adr == 0x7F {
-        return false;
-    }
-    if adr == 0x20 {
-        return true;
-    }
-    is_adr(adr, plant[SI_ADR])
+    adr != 0x7F && (adr == 0x20 || is_adr(adr, plant[SI_ADR]))
 }
 
 // Whether ADR is that of an address.
 fn is_adr(adr: u8, address: u32) -> bool
     ensures { result ≡ eqb adr (adr_of address) }
 {
-    (adr as u64) == (address as u64) + 32
+    u64::from(adr) == u64::from(address) + 32
 }
 
 // Whether ADR is ours or broadcast.
+#[tactic(auto, unfolding(crate::specs::Serve::reaches_us))]
 fn reaches_us(plant: &Plant, adr: u8) -> bool
     ensures { result ≡ reaches_us plant.now adr }
 {
-    if adr == 0x7F {
-        return true;
-    }
-    to_us(plant, adr)
+    adr == 0x7F || to_us(plant, adr)
 }
 
 // The row that a message names.
+#[tactic(auto, unfolding(crate::specs::Serve::row_named))]
 fn row_of(parameter: Option<ENumber>) -> Option<Row>
     ensures { result ≡ row_named parameter }
 {
-    let Some(e) = parameter else {
-        return None;
-    };
-    e.row()
+    parameter.and_then(|e| e.row())
 }
 
+#[tactic(auto, unfolding(crate::specs::Serve::enquiry_served, service::specs::Serving::told_served))]
 fn enquire(plant: &mut Plant, port: &mut Numbers, adr: u8, parameter: Option<ENumber>) -> Answer
     ensures { record { plant = plant.new; port = port.new; answer = result } ≡ enquiry_served plant.old port.old adr parameter }
 {
@@ -81,6 +74,7 @@ fn enquire(plant: &mut Plant, port: &mut Numbers, adr: u8, parameter: Option<ENu
     Answer::Told(row, reading::read(plant, port, row))
 }
 
+#[tactic(auto, unfolding(crate::specs::Serve::select_served))]
 fn select(
     plant: &mut Plant,
     port: &mut Numbers,
@@ -100,6 +94,7 @@ fn select(
 }
 
 // A SELECT of a row that there is.
+#[tactic(auto, using(service::proofs::Laws::wrote_is), unfolding(crate::specs::Serve::row_selected))]
 fn select_row(
     plant: &mut Plant,
     port: &mut Numbers,
@@ -115,7 +110,7 @@ fn select_row(
     let Some(word) = value else {
         return Answer::Refused(Refusal::Malformed);
     };
-    let w = word as u32;
+    let w = u32::from(word);
     if is_stop(plant, adr, row, w) {
         drive::stop(plant);
         port[SIOERR] = 0;
@@ -125,22 +120,15 @@ fn select_row(
 }
 
 // The broadcast stop: SCMD 0 to all, while 14 is the only flag.
+#[tactic(auto, unfolding(crate::specs::Serve::stops))]
 fn is_stop(plant: &Plant, adr: u8, row: Row, word: u32) -> bool
     ensures { result ≡ stops plant.now adr row.0 word }
 {
-    if adr != 0x7F {
-        return false;
-    }
-    if row.0 != SCMD {
-        return false;
-    }
-    if word != 0 {
-        return false;
-    }
-    drive::only_14(plant)
+    adr == 0x7F && row.0 == SCMD && word == 0 && drive::only_14(plant)
 }
 
 // Puts the reply to a message at the start of a lent buffer, and tells its length: 0 where there is none, or where it does not fit.
+#[tactic(auto, unfolding(crate::specs::Reply::replied, base::specs::Buffers::front, base::specs::Buffers::fitting))]
 pub fn write_answer(message: Message, answer: Answer, out: &mut [u8]) -> usize
     ensures count { result ≡ length (fitting (replied message answer) (length out.old)) }
     ensures lent { out.new ≡ front (fitting (replied message answer) (length out.old)) out.old }
@@ -156,12 +144,7 @@ fn adr_in(message: Message) -> u8
     ensures { result ≡ adr_in message }
 {
     match message {
-        Message::Enquiry { adr, parameter: _ } => adr,
-        Message::Select {
-            adr,
-            parameter: _,
-            value: _,
-        } => adr,
+        Message::Enquiry { adr, .. } | Message::Select { adr, .. } => adr,
     }
 }
 
@@ -169,12 +152,7 @@ fn parameter_in(message: Message) -> Option<ENumber>
     ensures { result ≡ parameter_in message }
 {
     match message {
-        Message::Enquiry { adr: _, parameter } => parameter,
-        Message::Select {
-            adr: _,
-            parameter,
-            value: _,
-        } => parameter,
+        Message::Enquiry { parameter, .. } | Message::Select { parameter, .. } => parameter,
     }
 }
 
@@ -182,12 +160,10 @@ fn parameter_in(message: Message) -> Option<ENumber>
 fn number_in(message: Message) -> ENumber
     ensures { result.0 ≡ e_number_in (parameter_in message) }
 {
-    let Some(e) = parameter_in(message) else {
-        return ENumber(0);
-    };
-    e
+    parameter_in(message).unwrap_or(ENumber(0))
 }
 
+#[tactic(auto, unfolding(crate::specs::Reply::replied_by, base::specs::Buffers::front, base::specs::Buffers::fitting))]
 fn put(adr: u8, e: ENumber, answer: Answer, out: &mut [u8]) -> usize
     ensures count { result ≡ length (fitting (replied_by adr e.0 answer) (length out.old)) }
     ensures lent { out.new ≡ front (fitting (replied_by adr e.0 answer) (length out.old)) out.old }
@@ -195,8 +171,7 @@ fn put(adr: u8, e: ENumber, answer: Answer, out: &mut [u8]) -> usize
     match answer {
         Answer::Told(_, word) => nfo_parts::reply(adr, e, (word % 65536) as u16, out),
         Answer::Written(_) => nfo_parts::ack(adr, out),
-        Answer::Identified(_) => 0,
-        Answer::NotOurs => 0,
+        Answer::Identified(_) | Answer::NotOurs => 0,
         Answer::Refused(_) => nfo_parts::nak(adr, out),
     }
 }

@@ -18,7 +18,7 @@ use Rattle.stream.proofs.Pending.{feed_viable}
 use Rattle.stream.proofs.Scanned.{further_more, scanned_takes, scanned_goes, scanned_end}
 use Rattle.pending.specs.declared.Pending.{Pending}
 use Rattle.pending.specs.Held.{held, Sized}
-use Rattle.pending.specs.Scanning.{Scan, Feeding, scan_from, scan_on, seen_in, Follows}
+use Rattle.pending.specs.Scanning.{Scan, Feeding, scan_one, scan_from, scan_on, seen_in, Follows}
 
 -- ---- a loop over the bytes s, from p₀ on: what is left to do gives the whole
 abbrev pub Scanning : Feeding → Pending → List ℕ → Pending → ℕ → Type 0
@@ -32,15 +32,22 @@ pub scan_turn : (G : Feeding) (s : List ℕ) (p : Pending) (i : ℕ) → i < len
 unfolding scan_from
 scan_turn G s p i h = ap (scan_from G p i) (drop-cons s i 0 h) ∙ rw add-one
 
-module _ (G : Feeding) (p₀ : Pending) (s : List ℕ) (p q : Pending) (i : ℕ) (t : Bool) where
-  -- the byte at place i ends no message
-  pub scan_again : Scanning G p₀ s p i → i < length s → q ≡ G.next p (get_or s i 0) → t ≡ G.ends p (get_or s i 0) → t ≡ false → Scanning G p₀ s q (i + 1)
-  scan_again inv h n e f = (omega arith, simp (sym e ∙ f, ← n) at (sym (scan_turn G s p i h) ∙ inv.1))
+-- what the turn at place i told: q is pending, u bytes are used, and whether a message is taken
+module _ (G : Feeding) (p₀ : Pending) (s : List ℕ) (p q : Pending) (i u : ℕ) (t : Bool)
+    (told : record { pending = q; used = u; taken = t } ≡ scan_one G p (get_or s i 0) (i + 1)) where
+  ends : G.ends p (get_or s i 0) ≡ t
+  ends = sym (ap (λ (x : Scan). x.taken) told)
+
+  next : q ≡ G.next p (get_or s i 0)
+  next = ap (λ (x : Scan). x.pending) told
+
+  -- its byte ends no message
+  pub scan_again : Scanning G p₀ s p i → i < length s → t ≡ false → Scanning G p₀ s q (i + 1)
+  scan_again inv h f = (omega arith, simp (ends ∙ f, ← next) at (sym (scan_turn G s p i h) ∙ inv.1))
 
   -- it ends one
-  pub scan_takes : Scanning G p₀ s p i → i < length s → q ≡ G.next p (get_or s i 0) → t ≡ G.ends p (get_or s i 0) → t ≡ true
-      → record { pending = q; used = i + 1; taken = true } ≡ scan_from G p₀ 0 s
-  scan_takes inv h n e f = simp (sym e ∙ f, ← n) at (sym (scan_turn G s p i h) ∙ inv.1)
+  pub scan_takes : Scanning G p₀ s p i → i < length s → t ≡ true → record { pending = q; used = u; taken = t } ≡ scan_from G p₀ 0 s
+  scan_takes inv h f = told ∙ simp (ends ∙ f) (simp (ends ∙ f) at (sym (scan_turn G s p i h) ∙ inv.1))
 
 -- no byte is left: all were used
 pub scan_done : (G : Feeding) (p₀ : Pending) (s : List ℕ) (p : Pending) (i : ℕ) → Scanning G p₀ s p i → length s ≤ i

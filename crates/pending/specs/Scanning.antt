@@ -25,6 +25,10 @@ pub record Feeding : Type 0 where
   pub next : Pending → ℕ → Pending
   pub message : Pending → List ℕ
 
+-- one byte, with which n bytes are used
+abbrev pub scan_one : Feeding → Pending → ℕ → ℕ → Scan
+scan_one G p b n = record { pending = G.next p b; used = n; taken = G.ends p b }
+
 -- "A stream call uses bytes up to the end of the first message taken, or all": n bytes were used before
 unfoldable pub scan_from : Feeding → Pending → ℕ → List ℕ → Scan
 scan_from G p n [] = record { pending = p; used = n; taken = false }

@@ -1,5 +1,7 @@
 // The bytes pending on a line, and what a scan of more bytes hands back: shared by the protocols that come as streams.
 // `Pending::empty` and `emptied` hold nothing; `push` and `begin_with` take one byte into the lent array, so that a scan copies no array.
+// Here, in the scans and in the ports the array and its count are two arguments and no `&mut Pending`: the C interface lends each by itself
+// (`card_receive_nfo_in` and the others of linecard_c).
 #![tactic(auto)]
 
 ghost use Rattle.std.specs.Prelude.{◌≡◌};
@@ -14,7 +16,7 @@ pub struct Pending {
 }
 
 // What a scan tells: how many bytes the lent array holds then, how many it used, and whether they end a message. Where they do, the array holds
-// the message, as the protocol's feeding has it.
+// the message, as the protocol's feeding has it. `taken` stands beside the numbers and is no `Option` or `Result` of them: both stand in either case.
 #[derive(Clone, Copy)]
 pub struct Scanned {
     pub len: usize,
@@ -24,16 +26,18 @@ pub struct Scanned {
 
 impl Pending {
     // Nothing is pending, and the array is zeros.
+    #[tactic(auto, unfolding(crate::specs::Held::empty))]
     pub fn empty() -> Pending
         ensures { result ≡ empty }
     {
         Pending {
-            bytes: [0u8; 512],
+            bytes: [0; 512],
             len: 0,
         }
     }
 
     // Nothing is pending any more. The array's bytes stay.
+    #[tactic(auto, unfolding(crate::specs::Held::emptied))]
     pub fn emptied(mut self) -> Pending
         ensures { result ≡ emptied self }
     {
@@ -42,7 +46,9 @@ impl Pending {
     }
 }
 
-// Puts `b` after the first `len` bytes, and tells how many there are then. A full array stays as it is.
+// Puts `b` after the first `len` bytes, and tells how many there are then. A full array stays as it is. (By `get_mut` there would be no test, but of
+// what is written through it a proof knows no byte: `pushed` was left open.)
+#[tactic(auto, using(base::proofs::Tests::tests), unfolding(crate::specs::Held::pushed))]
 pub fn push(bytes: &mut [u8; 512], len: usize, b: u8) -> usize
     ensures { record { bytes = bytes.new; len = result } ≡ pushed (record { bytes = bytes.old; len = len }) b }
 {
@@ -54,6 +60,7 @@ pub fn push(bytes: &mut [u8; 512], len: usize, b: u8) -> usize
 }
 
 // Puts `b` first, alone: there is one byte then.
+#[tactic(auto, unfolding(crate::specs::Held::began_with))]
 pub fn begin_with(bytes: &mut [u8; 512], b: u8) -> usize
     ensures { record { bytes = bytes.new; len = result } ≡ began_with (record { bytes = bytes.old; len = 0 }) b }
 {

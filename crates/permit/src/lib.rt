@@ -12,6 +12,7 @@ use table::names::*;
 use table::{Class, Row};
 
 // The permitted write, where a row may be made to hold a word now, or the first of refusals 3 to 7, in this order.
+#[tactic(auto, unfolding(crate::specs::Permit::permit_of))]
 pub fn permit_of(plant: &Plant, row: Row, word: u32) -> Result<Change, Refusal>
     ensures { result ≡ permit_of plant.now row.0 word }
 {
@@ -34,18 +35,15 @@ pub fn permit_of(plant: &Plant, row: Row, word: u32) -> Result<Change, Refusal>
 }
 
 // Whether the row is never written.
+#[tactic(auto, unfolding(crate::specs::Refusals::read_only))]
 pub fn read_only(row: Row) -> bool
     ensures { result ≡ read_only row.0 }
 {
-    let class = row.class();
-    match class {
-        Class::Init => false,
-        Class::Run => false,
-        Class::OnlyRead => true,
-    }
+    row.class() == Class::OnlyRead
 }
 
 // Whether the row allows the number that the word stands for.
+#[tactic(auto, unfolding(crate::specs::Refusals::allowed, crate::specs::Refusals::bounds_of))]
 fn is_allowed(plant: &Plant, row: Row, word: u32) -> bool
     ensures { result ≡ allowed plant.now row.0 word }
 {
@@ -58,29 +56,17 @@ fn is_allowed(plant: &Plant, row: Row, word: u32) -> bool
 }
 
 // An Init row is not written while the drive runs.
+#[tactic(auto, unfolding(crate::specs::Refusals::init_running))]
 fn is_init_running(plant: &Plant, row: Row) -> bool
     ensures { result ≡ init_running plant.now row.0 }
 {
-    let class = row.class();
-    match class {
-        Class::Init => drive::running(plant),
-        Class::Run => false,
-        Class::OnlyRead => false,
-    }
+    row.class() == Class::Init && drive::running(plant)
 }
 
 // SCMD is written only at MODE 3, and a run value only with DIN1 active.
+#[tactic(auto, unfolding(crate::specs::Refusals::permitted, drive::specs::Status::active))]
 fn is_permitted(plant: &Plant, row: Row, word: u32) -> bool
     ensures { result ≡ permitted plant.now row.0 word }
 {
-    if row.0 != SCMD {
-        return true;
-    }
-    if plant[MODE] != 3 {
-        return false;
-    }
-    if word == 0 {
-        return true;
-    }
-    plant[DIN1] != 0
+    row.0 != SCMD || (plant[MODE] == 3 && (word == 0 || plant[DIN1] != 0))
 }

@@ -1,5 +1,5 @@
 // The numbers of a port besides its bytes pending: its protocol, its time sum and its SioErr. They lie in one array, each at its name, so that a call is lent
-// them where they lie.
+// them where they lie. It is an array and no struct, and the protocol in it a number: C lays it out so (`include/linecard.h`), and any words are a port's.
 #![tactic(auto)]
 
 // The numbers of one port. Any words are a port's.

@@ -7,17 +7,15 @@ ghost use Rattle.protocols.specs.Words.{protocol_named};
 use card::Protocol;
 
 // The protocol that the word names: `nfo` is NFO serial, `rtu` Modbus RTU, `ascii` Modbus ASCII. Small letters only; any other word names nothing.
+// A function and no `TryFrom`: docs/PROMISES.md names it, and an impl would stand in `card`.
+#[tactic(auto, using(base::proofs::Tests::tests, crate::proofs::Laws::letters), unfolding(crate::specs::Words::protocol_named))]
 pub fn protocol_of(word: &[u8]) -> Option<Protocol>
     ensures { result ≡ protocol_named word.now }
 {
-    if check::same(word, b"nfo") {
-        return Some(Protocol::Nfo);
+    match word {
+        b"nfo" => Some(Protocol::Nfo),
+        b"rtu" => Some(Protocol::Rtu),
+        b"ascii" => Some(Protocol::Ascii),
+        _ => None,
     }
-    if check::same(word, b"rtu") {
-        return Some(Protocol::Rtu);
-    }
-    if check::same(word, b"ascii") {
-        return Some(Protocol::Ascii);
-    }
-    None
 }

@@ -15,33 +15,31 @@ use table::Row;
 use table::names::*;
 
 // Reads a row: tells its word, then acknowledges where the row is Inv St, ack, and zeroes SioErr and flag 14 where it is SioErr. Any other row changes nothing.
+#[tactic(auto, unfolding(crate::specs::Read::told))]
 pub fn read(plant: &mut Plant, port: &mut Numbers, row: Row) -> u32
     ensures { record { plant = plant.new; port = port.new; word = result } ≡ told plant.old port.old row.0 }
 {
-    let n = row.0;
-    if n == INV_ST_ACK {
-        let word = status_of(plant);
-        drive::acknowledge(plant);
-        return word;
+    match row.0 {
+        INV_ST_ACK => {
+            let word = status_of(plant);
+            drive::acknowledge(plant);
+            word
+        }
+        INV_ST => status_of(plant),
+        SIO_ERR => {
+            let word = port[SIOERR];
+            port[SIOERR] = 0;
+            drive::clear_14(plant);
+            word
+        }
+        n => stored_at(plant, n),
     }
-    if n == INV_ST {
-        return status_of(plant);
-    }
-    if n == SIO_ERR {
-        let word = port[SIOERR];
-        port[SIOERR] = 0;
-        drive::clear_14(plant);
-        return word;
-    }
-    stored_at(plant, n)
 }
 
-// The word at a row's line. A row past the table tells 0.
+// The word at a row's line. A row past the table tells 0. The test is of the table's end and no `get`: behind the rows the array goes on with numbers that are no rows.
+#[tactic(auto, unfolding(crate::specs::Read::stored))]
 fn stored_at(plant: &Plant, row: usize) -> u32
     ensures { result ≡ stored plant.now row }
 {
-    if row < ROWS {
-        return plant[row];
-    }
-    0
+    if row < ROWS { plant[row] } else { 0 }
 }

@@ -11,18 +11,12 @@ use Rattle.base.specs.Choice.{both, either}
 use Rattle.base.proofs.Tests.{both_out, pick_both}
 use Rattle.checks.specs.Crc.{body_of, crc_holds}
 use Rattle.checks.proofs.Laws.{body_length}
-use Rattle.rtu.specs.Rtu.{frame_holds, address_in, unit_in, part_of, data_of, register_span, register_data}
+use Rattle.rtu.specs.Rtu.{frame_holds, unit_in, part_of, data_of, register_span, register_data}
 use Rattle.modbus_words.specs.Words.{word_at}
 use Rattle.modbus.specs.Request.{between, span, reads, writes, asked, asked_of, identifying, numbering, request_of}
 use Rattle.modbus.specs.declared.requests.Span.{Span}
 use Rattle.modbus.specs.declared.requests.Request.{Request}
 use Rattle.modbus.proofs.Laws.{request_all}
-
--- ---- the address
-pub address_none : (f : List ℕ) → length f < 1 → 0 ≡ address_in f
-unfolding address_in
-address_none [] h = refl
-address_none (x ∷ f) h = absurd (omega arith)
 
 -- ---- the data unit
 pub unit_none : (f : List ℕ) → length f < 3 → [] ≡ unit_in f

@@ -1,9 +1,9 @@
 -- What the code stores of a reply: the body, with its CRC behind it. Assumes nothing.
 use mathlib.Core.Path.{◌≡◌, sym, ap, ap₂, ◌∙◌}
-use mathlib.Core.List.{List, ◌∷◌}
-use Prim.Native.Nat.{ℕ, suc, ◌+◌, ◌-◌, ◌/◌, ◌%◌, ◌≤◌, ◌<◌}
+use mathlib.Core.List.{List, [], ◌∷◌}
+use Prim.Native.Nat.{ℕ, suc, ◌+◌, ◌/◌, ◌%◌, ◌≤◌, ◌<◌}
 use native.Mathlib.Omega.{arith}
-use lib.ListN.{length, take, set, length-set, length-append}
+use lib.ListN.{length, take, get_or, set, length-append}
 use lib.Seq.{sets, length-sets}
 use Rattle.base.specs.Buffers.{front, rtu_least}
 use Rattle.base.proofs.Sets.{take_sets, sets_append, sets_front}
@@ -22,21 +22,13 @@ rtu_length a u = omega (arith, length-append (a ∷ u) (crc_bytes (a ∷ u)))
 
 -- ---- the CRC goes behind the n bytes of a body, in a buffer l with room for it
 module _ (n : ℕ) (l : List ℕ) (room : n + 2 ≤ length l) where
-  pub end_within : n ≤ length l
-  end_within = omega arith
-
-  pub low_within : n < length l
-  low_within = omega arith
-
-  pub high_within : (x : ℕ) → n + 1 < length (set l n x)
-  high_within x = simp length-set (omega arith)
-
-  pub sealed : (x : ℕ) → x ≡ crc_of (take (n - 0) l) → set (set l n (x % 256)) (n + 1) (x / 256) ≡ sets l n (crc_bytes (take n l))
+  pub sealed : (x : ℕ) (b : List ℕ) → x ≡ crc_of (take n l) → x < 65536 → b ≡ x % 256 ∷ x / 256 % 256 ∷ []
+      → set (set l n (get_or b 0 0)) (n + 1) (get_or b 1 0) ≡ sets l n (crc_bytes (take n l))
   unfolding crc_bytes
-  sealed x e =
-      let same : n - 0 ≡ n = omega arith in
+  sealed x b e h is =
       let next : n + 1 ≡ suc n = omega arith in
-      ap₂ (λ (k y : ℕ). set (set l n (y % 256)) k (y / 256)) next (e ∙ ap (λ (k : ℕ). crc_of (take k l)) same)
+      let high : x / 256 % 256 ≡ x / 256 = omega arith in
+      rw (is, next, high, e)
 
 -- ---- the body, of n bytes, is stored from the start of the buffer r, which is now l; what is made of it by its CRC is the reply
 module _ (a : ℕ) (i : Identity) (answer : Answer) (n : ℕ) (r l : List ℕ) (big : rtu_least ≤ length r) (count : n ≡ length (a ∷ unit_of i answer)) (lent : l ≡ sets r 0 (a ∷ unit_of i answer)) where

@@ -1,14 +1,15 @@
 -- A call on a frame of Modbus RTU, case by case. Assumes nothing.
 use Rattle.std.proofs.Common.{Option, Some, None}
-use mathlib.Core.Path.{◌≡◌, refl, ap}
-use mathlib.Core.Bool.{Bool, true, false, not}
+use mathlib.Core.Path.{◌≡◌}
+use mathlib.Core.Bool.{Bool, true, false}
 use mathlib.Core.List.{List}
 use Prim.Native.Nat.{ℕ, ◌≤◌, ◌<◌}
 use native.Mathlib.Omega.{arith}
-use borrow.Author.Tests.{lt-ltb, le-ltb, not-true, not-false}
+use borrow.Author.Tests.{lt-ltb, le-ltb}
 use lib.Dec.{ltb}
 use lib.ListN.{length}
 use Rattle.base.specs.Buffers.{front, rtu_least}
+use Rattle.base.proofs.Sets.{front_none}
 use Rattle.base.proofs.Tests.{pick_both}
 use Rattle.identity.specs.Identity.{Identity}
 use Rattle.modbus.specs.Answer.{unit_of}
@@ -23,44 +24,57 @@ use Rattle.modbus_service.specs.declared.Exchange.{Exchange}
 use Rattle.card.specs.State.{card_of}
 use Rattle.card.specs.declared.state.Card.{Card}
 use Rattle.card.specs.declared.outcome.Outcome.TheVariants as Outcomes
-use Rattle.turn.specs.Turn.{Received, too_short, port_after, card_after}
+use Rattle.turn.specs.Turn.{Received, turn_of, port_after, card_after}
 use Rattle.turn.specs.Turned.{turn_in, short_in}
 use Rattle.turn.specs.declared.Turn.{Turn}
 use Rattle.turn.specs.declared.Turned.{Turned}
-use Rattle.turn.proofs.Laws.{Does, silent, after_in}
-use Rattle.rtu_port.specs.Receive.{exchange_on, frame_of, spoilt, spoilt_in, taken, rtu_received}
+use Rattle.turn.proofs.Laws.{after_in}
+use Rattle.rtu_port.specs.Receive.{exchange_on, frame_of, spoilt_in, taken, rtu_received}
 use Rattle.modbus.specs.declared.replies.Answer as Units
 
 -- ---- a frame is taken: the plant and the port are `p'` and `q'` once it is served, and the port `q''` then
-module _ (held : List ℕ) (q q' q'' : Numbers) (p p' : Plant) (i : Identity) (frame unit : List ℕ) (address : ℕ) (e : Exchange) (n : ℕ) (out before : List ℕ)
-    (from : address ≡ address_in frame) (has : unit ≡ unit_in frame) (serves : exchanged_in p' q' e ≡ exchanged p q address unit)
-    (leaves : q'' ≡ port_after e.answer q')
-    (puts : (n ≡ length (frame_of i address e.reply)) × (out ≡ front (frame_of i address e.reply) before)) where
-  pub takes : Does (turn_in held q'' p' i (record { pending = 0; outcome = Outcomes.Served e.answer; used = length frame; len = n })) out
-      (taken (card_of held 0 q p i) frame) before
-  takes = rw (← has, ← from, ← serves, puts.0, after_in i held 0 q'' (exchanged_in p' q' e).served leaves) (refl, puts.1)
+module _ (held : List ℕ) (q q' q'' : Numbers) (p p' : Plant) (i : Identity) (frame unit : List ℕ) (address : ℕ) (e : Exchange)
+    (from : address ≡ address_in frame) (has : unit ≡ unit_in frame) (serves : exchanged_in p' q' e ≡ exchanged p q address unit) where
+  pub takes_turn : (n : ℕ) → q'' ≡ port_after e.answer q' → n ≡ length (frame_of i address e.reply)
+      → turn_in held q'' p' i (record { pending = 0; outcome = Outcomes.Served e.answer; used = length frame; len = n }) ≡ turn_of (taken (card_of held 0 q p i) frame)
+  takes_turn n leaves count = rw (← has, ← from, ← serves, count, after_in i held 0 q'' (exchanged_in p' q' e).served leaves)
+
+  pub takes_lent : (out before : List ℕ) → out ≡ front (frame_of i address e.reply) before → out ≡ front (taken (card_of held 0 q p i) frame).reply before
+  takes_lent out before lent = rw (← has, ← from, ← serves) lent
 
 -- ---- the whole call
 module _ (held : List ℕ) (len : ℕ) (q : Numbers) (p : Plant) (i : Identity) (frame before : List ℕ) where
   abbrev call : Received
   call = rtu_received (card_of held len q p i) frame (length before)
 
-  pub short : (r : Turned) → length before < rtu_least → r ≡ short_in len → Does (turn_in held q p i r) before call before
-  unfolding rtu_received
-  short r h e = simp (lt-ltb (length before) rtu_least h) (silent (turn_in held q p i r) (too_short (card_of held len q p i)) before refl (ap (turn_in held q p i) e))
+  module _ (short : length before < rtu_least) where
+    pub short_turn : (r : Turned) → r ≡ short_in len → turn_in held q p i r ≡ turn_of call
+    unfolding rtu_received
+    short_turn r e = simp (lt-ltb (length before) rtu_least short, e)
 
-  pub spoils : (holds : Bool) (r : Turned) → rtu_least ≤ length before → holds ≡ frame_holds frame → not holds ≡ true → r ≡ spoilt_in len (length frame)
-      → Does (turn_in held q p i r) before call before
-  unfolding rtu_received
-  spoils holds r h d t e =
-      simp (le-ltb (length before) rtu_least h, ← d, not-true holds t)
-      (silent (turn_in held q p i r) (spoilt (card_of held len q p i) (length frame)) before refl (ap (turn_in held q p i) e))
+    pub short_lent : before ≡ front call.reply before
+    unfolding rtu_received
+    short_lent = simp (lt-ltb (length before) rtu_least short, front_none)
 
-  -- what was pending does not matter to a frame that is taken
-  pub holds_one : (holds : Bool) (r : Turn) (out : List ℕ) → rtu_least ≤ length before → holds ≡ frame_holds frame → not holds ≡ false
-      → Does r out (taken (card_of held 0 q p i) frame) before → Does r out call before
-  unfolding rtu_received card_after emptied
-  holds_one holds r out h d t e = simp (le-ltb (length before) rtu_least h, ← d, not-false holds t) e
+  module _ (holds : Bool) (h : rtu_least ≤ length before) (d : holds ≡ frame_holds frame) where
+    module _ (t : holds ≡ false) where
+      pub spoils_turn : (r : Turned) → r ≡ spoilt_in len (length frame) → turn_in held q p i r ≡ turn_of call
+      unfolding rtu_received
+      spoils_turn r e = simp (le-ltb (length before) rtu_least h, ← d, t, e)
+
+      pub spoils_lent : before ≡ front call.reply before
+      unfolding rtu_received
+      spoils_lent = simp (le-ltb (length before) rtu_least h, ← d, t, front_none)
+
+    -- what was pending does not matter to a frame that is taken
+    module _ (t : holds ≡ true) where
+      pub holds_turn : (r : Turn) → r ≡ turn_of (taken (card_of held 0 q p i) frame) → r ≡ turn_of call
+      unfolding rtu_received card_after emptied
+      holds_turn r e = simp (le-ltb (length before) rtu_least h, ← d, t) e
+
+      pub holds_lent : (out : List ℕ) → out ≡ front (taken (card_of held 0 q p i) frame).reply before → out ≡ front call.reply before
+      unfolding rtu_received card_after emptied
+      holds_lent out e = simp (le-ltb (length before) rtu_least h, ← d, t) e
 
 -- ---- what a caller may count on: the bytes used are there, one at least is used, and a reply has 75 bytes at most
 frame_short : (i : Identity) (address : ℕ) (said : Option Units.Answer) → length (frame_of i address said) ≤ 75

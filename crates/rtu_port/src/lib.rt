@@ -1,4 +1,4 @@
-// Modbus RTU on the card's port: `receive` takes one frame a call, serves its data unit and replies to it. The card's parts are lent where they lie.
+// Modbus RTU on the card's port: `receive` takes one frame a call, serves its data unit and replies to it. The card's parts are lent where they lie, as C lends them.
 #![tactic(auto)]
 
 ghost use Rattle.std.specs.Prelude.{◌≡◌, ◌≤◌, length};
@@ -17,6 +17,8 @@ use port::Numbers;
 use turn::{Turned, after_message, short_buffer};
 
 // Reads a frame, serves its data unit, and puts the reply at the start of `reply`, which has 256 bytes at least. All bytes are used.
+// The parts of the card are lent one by one, here and below, as C lends them (`card_receive_rtu_in`).
+#[tactic(auto, using(crate::proofs::Laws::short_turn, crate::proofs::Laws::short_lent, crate::proofs::Laws::spoils_turn, crate::proofs::Laws::spoils_lent, crate::proofs::Laws::holds_turn, crate::proofs::Laws::holds_lent))]
 pub fn receive(
     held: &[u8; 512],
     len: usize,
@@ -51,6 +53,7 @@ fn bad_frame(pending: usize, used: usize) -> Turned
 }
 
 // A frame whose length and CRC are right: its data unit is served and replied to.
+#[tactic(auto, using(crate::proofs::Laws::takes_lent))]
 fn take(
     held: &[u8; 512],
     port: &mut Numbers,
@@ -66,19 +69,18 @@ fn take(
     let address = rtu::address_in(frame);
     let unit = rtu::unit_in(frame);
     let exchange = modbus_service::serve(plant, port, address, unit);
-    let answer = exchange.answer;
-    let said = exchange.reply;
-    after_message(port, answer);
-    let len = put(address, said, identity, reply);
+    after_message(port, exchange.answer);
+    let len = put(address, exchange.reply, identity, reply);
     Turned {
         pending: 0,
-        outcome: Outcome::Served(answer),
+        outcome: Outcome::Served(exchange.answer),
         used: frame.len(),
         len,
     }
 }
 
-// Puts the reply's frame, where there is a reply.
+// Puts the reply's frame, where there is a reply. The `put` of ascii_port differs in the writer alone, and says why they are two.
+#[tactic(auto, using(base::proofs::Sets::front_none, modbus::proofs::Buffers::reply_all))]
 fn put(address: u8, said: Option<Answer>, identity: &Identity, reply: &mut [u8]) -> usize
     requires { rtu_least ≤ length reply.old }
     ensures count { result ≡ length (frame_of identity.now address said) }

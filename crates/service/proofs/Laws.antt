@@ -1,6 +1,6 @@
 -- What was read and what was written, as what serving comes to. Assumes nothing.
 use Rattle.std.proofs.Common.{Result, Ok, Err}
-use mathlib.Core.Path.{◌≡◌, refl, sym, ap, ◌∙◌}
+use mathlib.Core.Path.{◌≡◌, refl, ap}
 use Prim.Native.Nat.{ℕ}
 use Rattle.table.specs.declared.labels.Row.{Row}
 use Rattle.port.specs.Port.{Numbers}
@@ -9,7 +9,7 @@ use Rattle.answers.specs.declared.Answer.{Answer}
 use Rattle.answers.specs.Answer.{answer_number}
 use Rattle.permit.specs.Permit.{permit_of}
 use Rattle.reading.specs.Read.{told}
-use Rattle.service.specs.Write.{Written, after, written}
+use Rattle.service.specs.Write.{after, written}
 use Rattle.service.specs.Serving.{Served, keeping, telling, told_served, permitted, wrote_served}
 use Rattle.answers.specs.declared.Change.{Change}
 use Rattle.answers.specs.declared.Refusal.{Refusal}
@@ -18,14 +18,6 @@ use Rattle.answers.specs.declared.Refusal.{Refusal}
 pub told_is : (p q x y : Plant) (row : Row) (word : ℕ) → record { plant = x; port = y; word = word } ≡ told p q row.0 → telling row (record { plant = x; port = y; word = word }) ≡ told_served p q row
 unfolding told_served
 told_is p q x y row word e = ap (telling row) e
-
--- a row was written: the plant then, and an arm of the `match` on what was permitted
-module _ (p x : Plant) (row w : ℕ) (r : Result Change Refusal) (e : ◌≡◌ {A = Written} (record { plant = x; permit = r }) (written p row w)) where
-  pub wrote_plant : x ≡ (written p row w).plant
-  wrote_plant = ap (λ (t : Written). t.plant) e
-
-  pub wrote_answer : (k : Result Change Refusal) (a : Answer) → r ≡ k → a ≡ permitted k → a ≡ permitted (written p row w).permit
-  wrote_answer k a h q = q ∙ ap permitted (sym h ∙ ap (λ (t : Written). t.permit) e)
 
 -- what the two promises of a write say together, whatever the port
 pub wrote_is : (p x : Plant) (q : Numbers) (row w : ℕ) (a : Answer) → x ≡ (written p row w).plant → a ≡ permitted (written p row w).permit

@@ -8,7 +8,8 @@ use permit::permit_of;
 use table::Row;
 use table::names::*;
 
-// Writes a row where that is permitted, and tells what was written or the refusal.
+// Writes a row where that is permitted, and tells what was written or the refusal. The permit is taken apart by `let .. else`, as document 01 asks, and not by `?`.
+#[tactic(auto, unfolding(crate::specs::Write::written))]
 pub(crate) fn write(plant: &mut Plant, row: Row, word: u32) -> Result<Change, Refusal>
     ensures { record { plant = plant.new; permit = result } ≡ written plant.old row.0 word }
 {
@@ -21,11 +22,11 @@ pub(crate) fn write(plant: &mut Plant, row: Row, word: u32) -> Result<Change, Re
 }
 
 // Makes a row hold a word, and where it is a different one, Drive Status right. Rows past SCMD are never written.
+#[tactic(auto, unfolding(crate::specs::Write::applied))]
 fn apply(plant: &mut Plant, change: Change)
     ensures { plant.new ≡ applied change.row.0 change.word plant.old }
 {
-    let row = change.row;
-    let n = row.0;
+    let n = change.row.0;
     if SCMD < n {
         return;
     }
@@ -38,14 +39,13 @@ fn apply(plant: &mut Plant, change: Change)
 }
 
 // What follows from a row that holds a different word now: of Mode, Setpoint 0; of MODE, SCMD 0.
+#[tactic(auto, unfolding(crate::specs::Write::followed))]
 fn follow(plant: &mut Plant, row: usize)
     ensures { plant.new ≡ followed row plant.old }
 {
-    if row == MODE_SETTING {
-        plant[SETPOINT] = 0;
-        return;
-    }
-    if row == MODE {
-        plant[SCMD] = 0;
+    match row {
+        MODE_SETTING => plant[SETPOINT] = 0,
+        MODE => plant[SCMD] = 0,
+        _ => {}
     }
 }

@@ -16,8 +16,7 @@ pub fn write(plant: &mut Plant, row: Row, word: u32) -> Answer
     ensures plant { plant.new ≡ (written plant.old row.0 word).plant }
     ensures answer { result ≡ permitted (written plant.old row.0 word).permit }
 {
-    let permit = changes::write(plant, row, word);
-    match permit {
+    match changes::write(plant, row, word) {
         Ok(change) => Answer::Written(change),
         Err(refusal) => Answer::Refused(refusal),
     }

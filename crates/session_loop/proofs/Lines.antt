@@ -8,21 +8,16 @@ use borrow.Rule.Slice.PartMut.{mid_of, put_mid}
 use lib.ListN.{length, take, set, length-set, length-append, length-take, length-drop}
 use lib.Seq.{sets, length-sets}
 use Rattle.base.specs.Buffers.{front, ascii_least}
-use Rattle.base.proofs.Sets.{sets_part, sets_append, sets_front, take_front, length_front, front_none}
+use Rattle.base.proofs.Sets.{sets_part, sets_append, sets_front, take_front, front_none}
 use Rattle.hex_pairs.specs.Hex.{hex_of}
 use Rattle.hex_pairs.proofs.RoundTrip.{length_hex}
 use Rattle.card.specs.Outcome.{outcome_number}
-use Rattle.identity.specs.Identity.{Identity}
-use Rattle.port.specs.Port.{Numbers}
-use Rattle.drive.specs.Plant.{Plant}
 use Rattle.card.specs.declared.state.Card.{Card}
 use Rattle.turn.specs.Turn.{Received}
-use Rattle.turn.specs.Turned.{turn_in}
 use Rattle.turn.specs.declared.Turn.{Turn}
 use Rattle.turn.specs.declared.Turned.{Turned}
 use Rattle.turn.proofs.Laws.{Does}
-use Rattle.receive.specs.Receive.{received}
-use Rattle.receive.proofs.Laws.{received_most}
+use Rattle.receive.specs.Receive.{received, turn_on}
 use Rattle.session_loop.specs.Line.{Report, shown, line_text, line_of, reported}
 
 -- ---- the text of a line
@@ -77,32 +72,31 @@ module _ (number : ℕ) (reply text : List ℕ) (room : 2 * length reply + 4 ≤
             ∙ sets_front ((48 + number % 10) ∷ 32 ∷ (hex_of reply ++ 10 ∷ [])) text (omega (arith, count)),
       )
 
+-- a line has four characters and the reply's digits at most
+pub line_length : (number : ℕ) (reply : List ℕ) → length (line_text number reply) ≤ 2 * length reply + 4
+unfolding line_text
+line_length number [] = omega arith
+line_length number (b ∷ reply) = omega (arith, length-append (hex_of (b ∷ reply)) (10 ∷ []), length_hex (b ∷ reply))
+
 -- ---- a call, by what the card promises of it
 -- what is reported of a turn, with a line of so many characters
 abbrev pub report_of : Turn → ℕ → Report
 report_of x n = record { card = x.card; used = x.used; reply = x.len; line = n }
 
--- the buffer for the reply is long enough for every protocol; `held`, `q`, `p` and `i` are the parts of the card after the call
-module _ (c : Card) (bytes before after held : List ℕ) (q : Numbers) (p : Plant) (i : Identity) (t : Turned) (room : length before ≡ ascii_least)
-    (does : Does (turn_in held q p i t) after (received c bytes (length before)) before) where
+-- the buffer for the reply is long enough for every protocol; d is the card after the call
+module _ (c d : Card) (bytes before after : List ℕ) (t : Turned) (room : length before ≡ ascii_least)
+    (does : Does (turn_on d t) after (received c bytes (length before)) before) where
   abbrev r : Received
   r = received c bytes ascii_least
 
-  turns : Does (turn_in held q p i t) after r before
-  turns = subst (λ (n : ℕ). Does (turn_in held q p i t) after (received c bytes n) before) room does
+  turns : Does (turn_on d t) after r before
+  turns = subst (λ (n : ℕ). Does (turn_on d t) after (received c bytes n) before) room does
 
   same_len : t.len ≡ length r.reply
   same_len = ap (λ (x : Turn). x.len) turns.0
 
-  -- the reply is a part of its buffer, and its line fits into 306 characters
-  pub reply_fits : (t.len ≤ 151) × (length after ≡ ascii_least)
-  reply_fits = (
-    rw same_len (received_most c bytes ascii_least),
-    ap length turns.1 ∙ length_front r.reply before (omega (arith, received_most c bytes ascii_least)) ∙ room,
-  )
-
-  reply_read : take (t.len - 0) after ≡ r.reply
-  reply_read = let same : t.len - 0 ≡ length r.reply = omega (arith, same_len) in rw (same, turns.1) (take_front r.reply before)
+  reply_read : take t.len after ≡ r.reply
+  reply_read = rw (same_len, turns.1) (take_front r.reply before)
 
   -- by the number of its outcome
   module _ (number : ℕ) (numbered : number ≡ outcome_number t.outcome) where
@@ -113,16 +107,16 @@ module _ (c : Card) (bytes before after held : List ℕ) (q : Numbers) (p : Plan
     unfolding line_of
     no_line h = let l : 9 < outcome_number r.outcome = omega (arith, said) in simp (lt-ltb 9 (outcome_number r.outcome) l)
 
-    a_line : number ≤ 9 → line_text number (take (t.len - 0) after) ≡ line_of r
+    a_line : number ≤ 9 → line_text number (take t.len after) ≡ line_of r
     unfolding line_of
     a_line h = let l : outcome_number r.outcome ≤ 9 = omega (arith, said) in rw (reply_read, said) (simp (le-ltb 9 (outcome_number r.outcome) l))
 
-    pub serve_none : (text : List ℕ) → 9 < number → (report_of (turn_in held q p i t) 0 ≡ reported r) × ((after ≡ front r.reply before) × (text ≡ front (line_of r) text))
+    pub serve_none : (text : List ℕ) → 9 < number → (report_of (turn_on d t) 0 ≡ reported r) × ((after ≡ front r.reply before) × (text ≡ front (line_of r) text))
     serve_none text h = let none : line_of r ≡ [] = no_line h in rw none (ap (λ (x : Turn). report_of x 0) turns.0, (turns.1, sym (front_none text)))
 
     pub serve_line : (text out : List ℕ) (n : ℕ) → number ≤ 9
-        → (n ≡ length (line_text number (take (t.len - 0) after))) × (out ≡ front (line_text number (take (t.len - 0) after)) text)
-        → (report_of (turn_in held q p i t) n ≡ reported r) × ((after ≡ front r.reply before) × (out ≡ front (line_of r) text))
+        → (n ≡ length (line_text number (take t.len after))) × (out ≡ front (line_text number (take t.len after)) text)
+        → (report_of (turn_on d t) n ≡ reported r) × ((after ≡ front r.reply before) × (out ≡ front (line_of r) text))
     serve_line text out n h e =
         let count : n ≡ length (line_of r) = e.0 ∙ ap length (a_line h) in
         let lent : out ≡ front (line_of r) text = e.1 ∙ ap (λ (l : List ℕ). front l text) (a_line h) in

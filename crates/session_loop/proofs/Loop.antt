@@ -1,23 +1,20 @@
 -- The loop over what was read: a call uses bytes that are there, and one at least; and the calls are those that `Handed` names, and so those
 -- of a stream to its end. Assumes nothing.
 use Rattle.std.specs.Prelude.{Result, Ok, Err, OnErr}
-use mathlib.Core.Path.{◌≡◌, refl, sym, ap, subst, ◌∙◌}
+use mathlib.Core.Path.{◌≡◌, refl, sym, ap, subst}
 use mathlib.Core.List.{List, [], ◌∷◌, ◌++◌, append-nil}
-use Prim.Native.Nat.{ℕ, ◌+◌, ◌-◌, ◌≤◌, ◌<◌}
+use Prim.Native.Nat.{ℕ, ◌-◌, ◌<◌}
 use native.Mathlib.Omega.{arith}
-use lib.ListN.{length, take, drop, length-drop, drop_of_length-le}
-use lib.Seq.{take_all, drop-drop}
+use lib.ListN.{length, take, drop, length-drop}
+use lib.Seq.{take_all}
 use Rattle.base.specs.Buffers.{ascii_least}
-use Rattle.identity.specs.Identity.{Identity}
-use Rattle.port.specs.Port.{Numbers}
-use Rattle.drive.specs.Plant.{Plant}
-use Rattle.card.specs.State.{card_of, protocol_of}
+use Rattle.card.specs.State.{protocol_of}
 use Rattle.card.specs.declared.state.Card.{Card}
 use Rattle.receive.specs.Calls.{Course, adding, ended, Calls}
 use Rattle.receive.specs.Calls as calls
 use Rattle.receive.specs.Receive.{received}
-use Rattle.receive.proofs.Laws.{received_used, received_uses, least_most}
-use Rattle.session_loop.specs.Line.{Report, reported, reported_in}
+use Rattle.receive.proofs.Laws.{least_most}
+use Rattle.session_loop.specs.Line.{Report, reported, reported_on}
 use Rattle.session_loop.specs.declared.call.Reported.{Reported}
 use Rattle.session_loop.specs.Handed.{EndsAt, Handed, over, call, Partly, none, after, Stopped}
 
@@ -32,40 +29,18 @@ pub partly_over : (c₀ : Card) (s₀ : List ℕ) (c : Card) (s : List ℕ) (d :
 partly_over c₀ s₀ c s d none h = h
 partly_over c₀ s₀ c s d (after b l p) h = call b l (partly_over _ _ c s d p h)
 
-module _ (c : Card) (scrap : List ℕ) (at : ℕ) (held : List ℕ) (q : Numbers) (p : Plant) (i : Identity) (t : Reported) (more : at < length scrap)
-    (turns : reported_in held q p i t ≡ reported (received c (take (length scrap - at) (drop at scrap)) ascii_least)) where
-  abbrev rest : List ℕ
-  rest = drop at scrap
-
-  rest_length : length rest ≡ length scrap - at
-  rest_length = length-drop at scrap
-
-  turned : reported_in held q p i t ≡ reported (received c rest ascii_least)
-  turned =
-      let whole : take (length scrap - at) rest ≡ rest = take_all (length scrap - at) rest (omega (arith, rest_length)) in
-      subst (λ (s : List ℕ). reported_in held q p i t ≡ reported (received c s ascii_least)) whole turns
-
-  same_used : t.used ≡ (received c rest ascii_least).used
-  same_used = ap (λ (x : Report). x.used) turned
-
-  pub used_within : at + t.used ≤ length scrap
-  used_within = omega (arith, rest_length, same_used, received_used c rest ascii_least)
-
-  pub used_less : length scrap - (at + t.used) < length scrap - at
-  used_less = omega (arith, used_within, same_used, received_uses c rest ascii_least (least_most (protocol_of c)) (omega (arith, rest_length)))
-
+-- a call, by what is reported of it: c is the card before it, d the card after it
+module _ (c d : Card) (rest : List ℕ) (t : Reported) (turns : reported_on d t ≡ reported (received c rest ascii_least)) where
   -- one call more
-  pub handed_on : (c₀ : Card) → Partly c₀ scrap c rest → Partly c₀ scrap (card_of held t.pending q p i) (drop (at + t.used) scrap)
-  handed_on c₀ l =
-      let unused : drop (at + t.used) scrap ≡ drop (received c rest ascii_least).used rest = sym (drop-drop t.used at scrap) ∙ ap (λ (n : ℕ). drop n rest) same_used in
-      let same-card : card_of held t.pending q p i ≡ (received c rest ascii_least).card = ap (λ (x : Report). x.card) turned in
-      subst (λ (k : Card). Partly c₀ scrap k (drop (at + t.used) scrap)) (sym same-card)
-      (subst (λ (s : List ℕ). Partly c₀ scrap (received c rest ascii_least).card s) (sym unused) (one_more c₀ scrap c rest l (omega (arith, rest_length))))
+  pub handed_on : (c₀ : Card) (scrap : List ℕ) → Partly c₀ scrap c rest → 0 < length rest → Partly c₀ scrap d (take (length rest - t.used) (drop t.used rest))
+  handed_on c₀ scrap l more =
+      let whole : take (length rest - t.used) (drop t.used rest) ≡ drop t.used rest = take_all (length rest - t.used) (drop t.used rest) (omega (arith, length-drop t.used rest)) in
+      rw (whole, ap (λ (x : Report). x.card) turns, ap (λ (x : Report). x.used) turns) (one_more c₀ scrap c rest l more)
 
 -- what is left where writing failed
-pub stopped_at : (c₀ : Card) (s t : List ℕ) (d : ℕ → Card) (n : ℕ) → Partly c₀ s (d n) t → Stopped c₀ s d
+pub stopped_at : (c₀ : Card) (s t : List ℕ) (d : Card) → Partly c₀ s d t → Stopped c₀ s d
 unfolding Stopped
-stopped_at c₀ s t d n p = (n, t, p)
+stopped_at c₀ s t d p = (t, p)
 
 -- a call on all the bytes that there are is a call of the stream
 a_call : (c : Card) (s : List ℕ) (k : Course) → Calls (received c s ascii_least).card (drop (received c s ascii_least).used s) k → Calls c s (adding (received c s ascii_least) k)
@@ -84,8 +59,9 @@ handed_ends_at c d s (call b l h) =
     (adding (received c (b ∷ l) ascii_least) e.0, a_call c (b ∷ l) e.0 e.1, e.2)
 
 -- no bytes are left
-pub handed_over : (c₀ c : Card) (scrap : List ℕ) (at : ℕ) → length scrap ≤ at → Partly c₀ scrap c (drop at scrap) → Handed c₀ scrap c
-handed_over c₀ c scrap at h l = partly_over c₀ scrap c (drop at scrap) c l (subst (λ (s : List ℕ). Handed c s c) (sym (drop_of_length-le scrap h)) over)
+pub handed_over : (c₀ c : Card) (scrap rest : List ℕ) → length rest ≡ 0 → Partly c₀ scrap c rest → Handed c₀ scrap c
+handed_over c₀ c scrap [] h l = partly_over c₀ scrap c [] c l over
+handed_over c₀ c scrap (b ∷ rest) h l = absurd (omega arith)
 
 -- what holds anyway holds at an error
 pub at_error : {T E P : Type 0} (r : Result T E) → P → OnErr r P

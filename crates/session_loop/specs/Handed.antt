@@ -10,8 +10,7 @@ unfoldable pub EndsAt : Card → List ℕ → Card → Type 0
 EndsAt c s d = (k : Course) × Calls c s k × (k.card ≡ d)
 
 -- `Handed c s d`: the card c is handed the bytes s, call by call, each with all that the one before did not use, until there are none, with a buffer that is long enough for every
--- protocol; d is the card then. So a frame
--- of Modbus RTU, of which a call uses all, is not cut
+-- protocol; d is the card then. So a frame of Modbus RTU, of which a call uses all, is not cut
 pub data Handed : Card → List ℕ → Card → Type 0 where
   over : {c : Card} → Handed c [] c
   call : {c d : Card} (b : ℕ) (s : List ℕ) → Handed (received c (b ∷ s) ascii_least).card (drop (received c (b ∷ s) ascii_least).used (b ∷ s)) d → Handed c (b ∷ s) d
@@ -21,6 +20,6 @@ pub data Partly : Card → List ℕ → Card → List ℕ → Type 0 where
   none : {c : Card} {s : List ℕ} → Partly c s c s
   after : {c d : Card} {t : List ℕ} (b : ℕ) (s : List ℕ) → Partly (received c (b ∷ s) ascii_least).card (drop (received c (b ∷ s) ascii_least).used (b ∷ s)) d t → Partly c (b ∷ s) d t
 
--- `Stopped c s d`: what is left where a reply or a line could not be written: the card after some of those calls, with n bytes pending
-unfoldable pub Stopped : Card → List ℕ → (ℕ → Card) → Type 0
-Stopped c s d = (n : ℕ) × (t : List ℕ) × Partly c s (d n) t
+-- `Stopped c s d`: what is left where a reply or a line could not be written: d is the card after some of those calls
+unfoldable pub Stopped : Card → List ℕ → Card → Type 0
+Stopped c s d = (t : List ℕ) × Partly c s d t

@@ -2,10 +2,6 @@
 use Rattle.std.specs.Prelude.{List, [], ◌∷◌, ◌++◌, ℕ, ◌+◌, ◌%◌, ltb, length}
 use Rattle.base.specs.Choice.{pick}
 use Rattle.hex_pairs.specs.Hex.{hex_of}
-use Rattle.identity.specs.Identity.{Identity}
-use Rattle.port.specs.Port.{Numbers}
-use Rattle.drive.specs.Plant.{Plant}
-use Rattle.card.specs.State.{card_of}
 use Rattle.card.specs.Outcome.{outcome_number}
 use Rattle.card.specs.declared.state.Card.{Card}
 use Rattle.turn.specs.Turn.{Received}
@@ -34,6 +30,6 @@ pub record Report : Type 0 where
 abbrev pub reported : Received → Report
 reported r = record { card = r.card; used = r.used; reply = length r.reply; line = length (line_of r) }
 
--- what the code hands back, with the parts of the card that it was lent
-abbrev pub reported_in : List ℕ → Numbers → Plant → Identity → Reported → Report
-reported_in held q p i r = record { card = card_of held r.pending q p i; used = r.used; reply = r.reply; line = r.line }
+-- what the code hands back, with the card as it is then
+abbrev pub reported_on : Card → Reported → Report
+reported_on c r = record { card = c; used = r.used; reply = r.reply; line = r.line }

@@ -9,16 +9,13 @@ mod call;
 mod line;
 
 ghost use Rattle.std.specs.Prelude.{◌≡◌, IfOk, OnErr};
-ghost use Rattle.card.specs.State.{card_of};
 ghost use Rattle.session_loop.specs.Handed.{EndsAt, Handed, Stopped};
 
 use base::ASCII_REPLY;
 use call::serve;
 use card::{Card, Protocol};
-use drive::Plant;
-use identity::{BLANK, Identity};
+use identity::BLANK;
 use line::LINE_MOST;
-use port::Numbers;
 use std::io;
 use std::io::{Read, Write};
 
@@ -27,79 +24,46 @@ use std::io::{Read, Write};
 pub fn run<R: Read, L: Write>(input: &mut R, lines: &mut L) -> io::Result<()>
     ensures { IfOk result (λ u. u ≡ tt) }
 {
-    let card = Card::start(Protocol::Nfo, BLANK);
-    let line = card.port;
-    let pending = line.pending;
-    let mut held = pending.bytes;
-    let mut port = line.numbers;
-    let mut plant = card.plant;
-    let identity = card.identity;
-    let mut len = pending.len;
+    let mut card = Card::start(Protocol::Nfo, BLANK);
     let mut scrap = [0u8; 4096];
     let mut nobody = io::sink();
+    // no `loop`: one that may not end needs the handle Wait, which this repository has none of
     for _ in 0..u64::MAX {
         let n = input.read(&mut scrap)?;
         if n == 0 {
-            return Ok(());
+            break;
         }
-        len = serve_all(
-            &mut held,
-            len,
-            &mut port,
-            &mut plant,
-            &identity,
-            &scrap[..n],
-            &mut nobody,
-            lines,
-        )?;
+        serve_all(&mut card, &scrap[..n], &mut nobody, lines)?;
     }
     Ok(())
 }
 
-// Hands the scrap over to a card whose parts are lent, call by call: each is given the bytes that the one before did not use. Of a frame a call uses all. Each reply
-// and each line is written at once. Tells how many bytes are pending then.
+// Hands the scrap over to the card, call by call: each is given the bytes that the one before did not use. Of a frame a call uses all. Each reply and each line is
+// written at once.
 pub fn serve_all<W: Write, L: Write>(
-    held: &mut [u8; 512],
-    len: usize,
-    port: &mut Numbers,
-    plant: &mut Plant,
-    identity: &Identity,
+    card: &mut Card,
     scrap: &[u8],
     replies: &mut W,
     lines: &mut L,
-) -> io::Result<usize>
-    ensures calls { IfOk result (λ n. EndsAt (card_of held.old len port.old plant.old identity.now) scrap.now (card_of held.new n port.new plant.new identity.now)) }
-    ensures whole { IfOk result (λ n. Handed (card_of held.old len port.old plant.old identity.now) scrap.now (card_of held.new n port.new plant.new identity.now)) }
-    ensures stopped { OnErr result (Stopped (card_of held.old len port.old plant.old identity.now) scrap.now (λ n. card_of held.new n port.new plant.new identity.now)) }
+) -> io::Result<()>
+    ensures calls { IfOk result (λ u. EndsAt card.old scrap.now card.new) }
+    ensures whole { IfOk result (λ u. Handed card.old scrap.now card.new) }
+    ensures stopped { OnErr result (Stopped card.old scrap.now card.new) }
 {
     let mut reply = [0u8; ASCII_REPLY];
     let mut text = [0u8; LINE_MOST];
-    let mut pending = len;
-    let mut at: usize = 0;
-    while at < scrap.len() {
-        let t = serve(
-            held,
-            pending,
-            port,
-            plant,
-            identity,
-            &scrap[at..],
-            &mut reply,
-            &mut text,
-        );
-        write(replies, &reply, t.reply)?;
-        write(lines, &text, t.line)?;
-        at += t.used;
-        pending = t.pending;
-    }
-    Ok(pending)
-}
-
-// Writes the first `len` bytes at once.
-fn write<W: Write>(to: &mut W, bytes: &[u8], len: usize) -> io::Result<()> {
-    if len <= bytes.len() {
-        to.write_all(&bytes[0..len])?;
-        to.flush()?;
+    let mut rest = scrap;
+    while !rest.is_empty() {
+        let turn = serve(card, rest, &mut reply, &mut text);
+        write(replies, &reply[..turn.reply])?;
+        write(lines, &text[..turn.line])?;
+        rest = &rest[turn.used..];
     }
     Ok(())
+}
+
+// Writes the bytes at once.
+fn write<W: Write>(to: &mut W, bytes: &[u8]) -> io::Result<()> {
+    to.write_all(bytes)?;
+    to.flush()
 }

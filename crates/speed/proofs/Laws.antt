@@ -1,5 +1,5 @@
 -- A call uses bytes that are there, and one at least where there is one. Assumes nothing.
-use Rattle.std.proofs.Common.{◌≡◌, ℕ, ◌+◌, ◌-◌, ◌<◌, ◌≤◌, List, length, take, drop, ap, arith, length-drop, length-take}
+use Rattle.std.proofs.Common.{◌≡◌, ℕ, ◌<◌, ◌≤◌, List, length, ap, arith}
 use Rattle.base.specs.Buffers.{ascii_least}
 use Rattle.identity.specs.Identity.{Identity}
 use Rattle.port.specs.Port.{Numbers}
@@ -22,10 +22,3 @@ module _ (c : Card) (bytes : List ℕ) (room : ℕ) (held : List ℕ) (q : Numbe
 
   pub used_some : ascii_least ≤ room → 0 < length bytes → 0 < t.used
   used_some h l = omega (arith, same_used, received_uses c bytes room (omega (arith, least_most (protocol_of c))) l)
-
--- a round comes nearer to the end of the workload
-pub piece_less : (bytes : List ℕ) (at end used : ℕ) → at < end → end ≤ length bytes → (0 < length (take (end - at) (drop at bytes)) → 0 < used)
-    → length bytes - (at + used) < length bytes - at
-piece_less bytes at end used l h some =
-    let n : length (take (end - at) (drop at bytes)) ≡ end - at = simp (length-take, length-drop) (omega arith) in
-    omega (arith, some (omega (arith, n)))

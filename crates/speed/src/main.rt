@@ -32,60 +32,38 @@ fn print<W: Write>(
     bytes: usize,
     tally: Tally,
 ) -> io::Result<()> {
-    let sum = tally.sum;
-    let taken = tally.taken;
-    let digits = [
-        (sum / 16777216) as u8,
-        ((sum / 65536) % 256) as u8,
-        ((sum / 256) % 256) as u8,
-        (sum % 256) as u8,
-    ];
-    let mut text = [b'\n'; 9];
-    hex_pairs::encode(&digits, &mut text);
+    let Tally { sum, taken, .. } = tally;
     out.write_all(word)?;
-    write!(
+    writeln!(
         out,
-        " rounds {rounds} bytes/round {bytes} taken {taken} checksum "
-    )?;
-    out.write_all(&text)
+        " rounds {rounds} bytes/round {bytes} taken {taken} checksum {sum:08X}"
+    )
 }
 
 // The rounds over a workload, from a fresh card on.
-fn run(protocol: Protocol, rounds: u64, bytes: &[u8], ends: &[usize; 4096]) -> Tally {
-    let card = Card::start(protocol, BLANK);
-    let line = card.port;
-    let pending = line.pending;
-    let mut held = pending.bytes;
-    let mut port = line.numbers;
-    let mut plant = card.plant;
-    let identity = card.identity;
+fn run(protocol: Protocol, rounds: u64, bytes: &[u8], frames: &[usize]) -> Tally {
+    let mut card = Card::start(protocol, BLANK);
     let mut tally = Tally {
-        pending: pending.len,
+        pending: card.port.pending.len,
         sum: 0,
         taken: 0,
     };
-    let mut left = rounds;
-    while left > 0 {
-        let next = round(
-            &mut held, &mut port, &mut plant, &identity, tally, bytes, ends,
-        );
-        tally = next;
-        left -= 1;
+    for _ in 0..rounds {
+        tally = round(&mut card, tally, bytes, frames);
     }
     tally
 }
 
-// Reads until `text` is full or the input ends, and tells how many bytes there are.
+// Reads until `text` is full or the input ends, and tells how many bytes there are. By hand: std's `read_to_end` puts what it reads on the heap, of which there is none.
 fn read_full<R: Read>(input: &mut R, text: &mut [u8]) -> io::Result<usize>
     ensures { IfOk result (λ n. n ≤ length text.new) }
 {
-    let mut done: usize = 0;
+    let mut done = 0;
     while done < text.len() {
-        let n = input.read(&mut text[done..])?;
-        if n == 0 {
-            return Ok(done);
+        match input.read(&mut text[done..])? {
+            0 => break,
+            n => done += n,
         }
-        done += n;
     }
     Ok(done)
 }
@@ -94,47 +72,23 @@ fn read_full<R: Read>(input: &mut R, text: &mut [u8]) -> io::Result<usize>
 fn measure(rt: &HostRuntime, word: &[u8], protocol: Protocol, rounds: u64) -> io::Result<()> {
     let mut text = [0u8; 65536];
     let mut work = [0u8; 65536];
-    let mut ends = [0usize; 4096];
+    let mut frames = [0usize; 4096];
     let got = read_full(&mut rt.stdin(), &mut text)?;
-    let total = read_lines(&text[..got], &mut work, &mut ends);
-    report(rt, word, protocol, rounds, &work, total, &ends)
-}
-
-// Runs over the first `total` bytes, or complains where there are none.
-fn report(
-    rt: &HostRuntime,
-    word: &[u8],
-    protocol: Protocol,
-    rounds: u64,
-    work: &[u8; 65536],
-    total: usize,
-    ends: &[usize; 4096],
-) -> io::Result<()> {
-    let all = &work[..];
-    if total == 0 {
+    let Some(total) = read_lines(&text[..got], &mut work, &mut frames) else {
         return complain(&mut rt.stderr());
-    }
-    if total <= all.len() {
-        let tally = run(protocol, rounds, &all[0..total], ends);
-        print(&mut rt.stdout(), word, rounds, total, tally)?;
-    }
-    Ok(())
+    };
+    let tally = run(protocol, rounds, &work[..total], &frames);
+    print(&mut rt.stdout(), word, rounds, total, tally)
 }
 
 fn main(rt: HostRuntime) -> io::Result<()> {
     let mut word = [0u8; 4096];
     let mut number = [0u8; 4096];
-    let Ok(n) = rt.arg(1, &mut word) else {
-        return complain(&mut rt.stderr());
-    };
-    let Some(protocol) = protocols::protocol_of(&word[..n]) else {
-        return complain(&mut rt.stderr());
-    };
-    let Ok(m) = rt.arg(2, &mut number) else {
-        return complain(&mut rt.stderr());
-    };
-    let Some(rounds) = number_of(&number[..m]) else {
-        return complain(&mut rt.stderr());
-    };
-    measure(&rt, &word[..n], protocol, rounds)
+    let n = rt.arg(1, &mut word).unwrap_or(0);
+    let m = rt.arg(2, &mut number).unwrap_or(0);
+    let word = &word[..n];
+    match (protocols::protocol_of(word), number_of(&number[..m])) {
+        (Some(protocol), Some(rounds)) => measure(&rt, word, protocol, rounds),
+        _ => complain(&mut rt.stderr()),
+    }
 }

@@ -3,11 +3,11 @@ ghost use Rattle.std.specs.Prelude.{◌≡◌, ◌<◌, ◌≤◌, length};
 ghost use Rattle.speed.specs.Sum.{mixed};
 
 use base::ASCII_REPLY;
-use drive::Plant;
-use identity::Identity;
-use port::{Numbers, PROTOCOL};
+use card::{Card, Protocol};
+use port::PROTOCOL;
 
-// How many bytes are pending, the sum over all calls, and how many messages were taken.
+// How many bytes are pending, the sum over all calls, and how many messages were taken. The count of the bytes pending stands here and not in the card: read from
+// the card and put into it at each call (`receive_on`), it makes 462 instructions a message of 431 on NFO serial, and docs/SPEED.md holds 449.
 #[derive(Clone, Copy)]
 pub(crate) struct Tally {
     pub(crate) pending: usize,
@@ -15,109 +15,67 @@ pub(crate) struct Tally {
     pub(crate) taken: u64,
 }
 
-// One round over the workload's bytes. A piece is 7 bytes of a stream, the last one shorter, or for Modbus RTU a frame, up to its end in `ends`.
-pub(crate) fn round(
-    held: &mut [u8; 512],
-    port: &mut Numbers,
-    plant: &mut Plant,
-    identity: &Identity,
-    tally: Tally,
-    bytes: &[u8],
-    ends: &[usize; 4096],
-) -> Tally {
+// One round over the workload's bytes. A piece is 7 bytes of a stream, or for Modbus RTU a frame, as many bytes as `frames` say; the last piece is what is left.
+pub(crate) fn round(card: &mut Card, tally: Tally, bytes: &[u8], frames: &[usize]) -> Tally {
     let mut reply = [0u8; ASCII_REPLY];
-    let mut t = tally;
-    let rtu = port[PROTOCOL] == 1;
-    let mut at: usize = 0;
-    let mut end: usize = 0;
-    let mut k: usize = 0;
-    while at < bytes.len() {
-        end = piece_end(end, rtu, ends[k], at, bytes.len());
-        let c = call(held, port, plant, identity, t, &bytes[at..end], &mut reply);
-        at += c.used;
-        k = (k + 1) % 4096;
-        let next = c.tally;
-        t = next;
+    let mut tally = tally;
+    let rtu = matches!(Protocol::from(card.port.numbers[PROTOCOL]), Protocol::Rtu);
+    let mut frames = frames.iter();
+    let mut rest = bytes;
+    while !rest.is_empty() {
+        let len = if rtu {
+            frame_len(frames.next(), rest.len())
+        } else {
+            rest.len().min(7)
+        };
+        let mut piece = &rest[..len];
+        while !piece.is_empty() {
+            let used = call(card, &mut tally, piece, &mut reply);
+            piece = &piece[used..];
+        }
+        rest = &rest[len..];
     }
-    t
+    tally
 }
 
-// What a call comes to, and how many bytes it used.
-#[derive(Clone, Copy)]
-struct Called {
-    tally: Tally,
-    used: usize,
-}
-
-// One call on a piece, or on the rest of it.
-fn call(
-    held: &mut [u8; 512],
-    port: &mut Numbers,
-    plant: &mut Plant,
-    identity: &Identity,
-    tally: Tally,
-    bytes: &[u8],
-    reply: &mut [u8; ASCII_REPLY],
-) -> Called
-    ensures within { result.used ≤ length bytes.now }
-    ensures some { 0 < length bytes.now → 0 < result.used }
+// How many of the bytes that are left the frame has that this entry tells of: all, where there is none or it has no place there.
+fn frame_len(entry: Option<&usize>, left: usize) -> usize
+    requires { 0 < left }
+    ensures { (0 < result) × (result ≤ left) }
 {
-    let t = receive::receive_in(held, tally.pending, port, plant, identity, bytes, reply);
-    let outcome = t.outcome;
-    let number = outcome.number();
-    Called {
-        tally: Tally {
-            pending: t.pending,
-            sum: add_call(tally.sum, number, t.used, t.len),
-            taken: add_taken(tally.taken, number),
-        },
-        used: t.used,
+    match entry {
+        Some(len) if (1..=left).contains(len) => *len,
+        _ => left,
     }
 }
 
-// Where the piece that holds `at` ends: where it did while there is a rest of it; else a frame at its own end, and a scrap 7 bytes on, or at the end of all.
-fn piece_end(end: usize, rtu: bool, frame: usize, at: usize, all: usize) -> usize
-    requires { (at < all) × (end ≤ all) }
-    ensures onward { at < result }
-    ensures within { result ≤ all }
+// One call on a piece, or on the rest of it. Tells how many bytes it used.
+fn call(card: &mut Card, tally: &mut Tally, bytes: &[u8], reply: &mut [u8; ASCII_REPLY]) -> usize
+    ensures within { result ≤ length bytes.now }
+    ensures onward { 0 < length bytes.now → 0 < result }
 {
-    if at < end {
-        return end;
-    }
-    if rtu {
-        return frame_end(frame, at, all);
-    }
-    if all - at <= 7 {
-        return all;
-    }
-    at + 7
-}
-
-// The end of a frame, or of all where that is no place behind `at`.
-fn frame_end(frame: usize, at: usize, all: usize) -> usize
-    requires { at < all }
-    ensures onward { at < result }
-    ensures within { result ≤ all }
-{
-    if frame <= at {
-        return all;
-    }
-    if frame <= all { frame } else { all }
-}
-
-// One more, where the outcome is that of a taken message.
-fn add_taken(taken: u64, number: u32) -> u64 {
-    if number < 10 {
-        return std::num::wrapping_add_u64(taken, 1);
-    }
-    taken
+    let turn = receive::receive_in(
+        &mut card.port.pending.bytes,
+        tally.pending,
+        &mut card.port.numbers,
+        &mut card.plant,
+        &card.identity,
+        bytes,
+        reply,
+    );
+    let number = turn.outcome.number();
+    tally.pending = turn.pending;
+    tally.sum = add_call(tally.sum, number, turn.used, turn.len);
+    tally.taken = tally.taken.wrapping_add(u64::from(number < 10));
+    turn.used
 }
 
 // The sum with one call more: its outcome, the bytes that it used, and the reply's length.
+#[tactic(auto, unfolding(crate::specs::Sum::mixed))]
 fn add_call(sum: u32, number: u32, used: usize, len: usize) -> u32
     ensures { result ≡ mixed sum number used len }
 {
-    let before = (sum as u64) * 16777619;
-    let call = (number as u64) + 16 * ((used % 65536) as u64) + 4096 * ((len % 65536) as u64);
+    let before = u64::from(sum) * 16777619;
+    let call = u64::from(number) + 16 * ((used % 65536) as u64) + 4096 * ((len % 65536) as u64);
     ((before + call) % 4294967296) as u32
 }

@@ -1,101 +1,21 @@
--- Searching the table: where no row passes, where two tests pass the same rows, and the row of a span. Assumes nothing.
+-- Searching the table: where two tests pass the same rows, and the row of a span. Assumes nothing.
 use Rattle.std.proofs.Common.{Option, Some, None}
 use mathlib.Core.Path.{◌≡◌, refl, sym, ap, ◌∙◌}
 use mathlib.Core.Bool.{Bool, true, false}
 use mathlib.Core.List.{List, [], ◌∷◌}
-use Prim.Native.Nat.{ℕ, suc, ◌+◌, ◌-◌, ◌*◌, ◌/◌, ◌%◌, ◌≤◌, ◌<◌}
+use Prim.Native.Nat.{ℕ, ◌+◌, ◌-◌, ◌*◌, ◌/◌, ◌%◌, ◌≤◌}
 use native.Mathlib.Omega.{arith}
 use borrow.Author.Tests.{eq-eqb, ne_eqb, eqb-true, eqb-false, leb-true, ltb-true, ltb-false}
 use lib.Dec.{eqb, leb, ltb}
-use Rattle.base.specs.Choice.{pick, both, either}
-use mathlib.Core.Logic.{◌⊎◌, inl, inr, ⊎_elim}
-use Rattle.base.proofs.Tests.{both_out, either_out, not_both, same_test}
-use Rattle.table.specs.Table.{Parameter, E, no_e, Place, ADI, register, Entry, rows, line_at}
+use Rattle.base.specs.Choice.{pick, both}
+use Rattle.base.proofs.Tests.{both_out, same_test}
+use Rattle.table.specs.Names.{Inv-St}
+use Rattle.table.specs.Table.{Place, ADI, register, Entry, rows, line_at}
 use Rattle.table.specs.Address.{address, first_register, adi_of}
-use Rattle.table.specs.Find.{first_row, has_e, has_adi, row_of_e, row_of_adi, row_from, row_of_span}
+use Rattle.table.specs.Find.{first_row, has_adi, row_of_adi, row_from, row_of_span}
 use Rattle.table.specs.declared.labels.AdiNumber.{AdiNumber}
 use Rattle.table.specs.declared.labels.Row.{Row}
 use Rattle.table.proofs.Apart.{every, pairwise, apart, apart_out, all_apart}
-use Rattle.base.proofs.Arms.{NoneOf}
-
--- ---- a number that is no row's label
--- the labels of one kind, in the table's order; `add` puts a row's label, if it has one, before the others
-abbrev pub labels : (Entry → List ℕ → List ℕ) → List Entry → List ℕ
-labels add [] = []
-labels add (x ∷ xs) = add x (labels add xs)
-
-none_found : (test : ℕ → Entry → Bool) (add : Entry → List ℕ → List ℕ) → ((n : ℕ) (x : Entry) (ks : List ℕ) → NoneOf n (add x ks) → (test n x ≡ false) × NoneOf n ks)
-    → (n : ℕ) (xs : List Entry) → NoneOf n (labels add xs) → None ≡ first_row (test n) xs
-unfolding first_row
-none_found test add miss n [] h = refl
-none_found test add miss n (x ∷ xs) h = let m = miss n x (labels add xs) h in simp m.0 (none_found test add miss n xs m.1)
-
--- n is one of the keys
-abbrev pub among : ℕ → List ℕ → Bool
-among n [] = false
-among n (k ∷ ks) = either (eqb n k) (among n ks)
-
--- each label from lo on and below hi is one of the keys
-abbrev pub keyed : ℕ → ℕ → List ℕ → List ℕ → Bool
-keyed lo hi keys [] = true
-keyed lo hi keys (k ∷ ks) = both (either (ltb k lo) (either (among k keys) (leb hi k))) (keyed lo hi keys ks)
-
-not_among : (n : ℕ) (keys : List ℕ) → NoneOf n keys → among n keys ≡ true → ⊥
-not_among n [] h e = not_both refl (sym e)
-not_among n (k ∷ ks) h e = ⊎_elim (λ t. h.0 (eqb-true n k t)) (λ t. not_among n ks h.1 t) (either_out (eqb n k) (among n ks) e)
-
--- so a number there that is none of the keys is no label
-no_label : (lo hi n : ℕ) (keys ks : List ℕ) → lo ≤ n → n < hi → NoneOf n keys → keyed lo hi keys ks ≡ true → NoneOf n ks
-no_label lo hi n keys [] l u h e = tt
-no_label lo hi n keys (k ∷ ks) l u h e =
-    let p = both_out (either (ltb k lo) (either (among k keys) (leb hi k))) (keyed lo hi keys ks) e in
-    (other p.0, no_label lo hi n keys ks l u h p.1)
-  where
-    other : either (ltb k lo) (either (among k keys) (leb hi k)) ≡ true → n ≡ k → ⊥
-    other t q = ⊎_elim
-        (λ s. omega (arith, ltb-true k lo s))
-        (λ s. ⊎_elim (λ v. not_among n keys h (rw q v)) (λ v. omega (arith, leb-true hi k v)) (either_out (among k keys) (leb hi k) s))
-        (either_out (ltb k lo) (either (among k keys) (leb hi k)) t)
-
-abbrev pub add_e : Parameter → List ℕ → List ℕ
-add_e (E n) ks = n ∷ ks
-add_e no_e ks = ks
-
-miss_e : (n : ℕ) (p : Parameter) (ks : List ℕ) → NoneOf n (add_e p ks) → (has_e n p ≡ false) × NoneOf n ks
-miss_e n (E m) ks h = (ne_eqb m n (λ q. h.0 (sym q)), h.1)
-miss_e n no_e ks h = (refl, h)
-
--- no row has the E number n, where n is from lo on, below hi, and none of the E numbers there
-pub no_e_lem : (lo hi n : ℕ) (keys : List ℕ) → keyed lo hi keys (labels (λ (x : Entry). add_e x.parameter) rows) ≡ true → lo ≤ n → n < hi → NoneOf n keys → None ≡ row_of_e n
-unfolding row_of_e
-no_e_lem lo hi n keys e l u h =
-    none_found (λ n x. has_e n x.parameter) (λ x. add_e x.parameter) (λ n x. miss_e n x.parameter) n rows
-    (no_label lo hi n keys (labels (λ x. add_e x.parameter) rows) l u h e)
-
-abbrev pub add_adi : Place → List ℕ → List ℕ
-add_adi (ADI n) ks = n ∷ ks
-add_adi (register r) ks = ks
-
-miss_adi : (n : ℕ) (p : Place) (ks : List ℕ) → NoneOf n (add_adi p ks) → (has_adi n p ≡ false) × NoneOf n ks
-miss_adi n (ADI m) ks h = (ne_eqb m n (λ q. h.0 (sym q)), h.1)
-miss_adi n (register r) ks h = (refl, h)
-
--- the same of the ADI number n
-pub no_adi : (lo hi n : ℕ) (keys : List ℕ) → keyed lo hi keys (labels (λ (x : Entry). add_adi x.place) rows) ≡ true → lo ≤ n → n < hi → NoneOf n keys → None ≡ row_of_adi n
-unfolding row_of_adi
-no_adi lo hi n keys e l u h =
-    none_found (λ n x. has_adi n x.place) (λ x. add_adi x.place) (λ n x. miss_adi n x.place) n rows
-    (no_label lo hi n keys (labels (λ x. add_adi x.place) rows) l u h e)
-
--- the ADI numbers but 301 to 322
-abbrev pub others : List ℕ
-others = 34 ∷ 35 ∷ 38 ∷ 323 ∷ 125 ∷ 120 ∷ 39 ∷ 19 ∷ []
-
--- a number outside of 301 to 322 that is none of them is no row's
-pub no_adi_outside : (n : ℕ) → (n < 301) ⊎ (323 ≤ n) → NoneOf n others → None ≡ row_of_adi n
-unfolding rows
-no_adi_outside n (inl l) h = no_adi 0 301 n others refl (omega arith) l h
-no_adi_outside n (inr l) h = no_adi 323 (suc n) n others refl l (omega arith) h
 
 -- ---- the address rule, read backwards
 pub adi_some : (r : ℕ) (a : AdiNumber) → adi_of r ≡ Some a → (1 ≤ a.0) × (r ≡ address a.0)
@@ -166,7 +86,12 @@ from_adi r g a f d e q = q ∙ same_rows (has_adi a.0) (λ (p : Place). eqb (fir
         (λ y. eq-eqb m a.0 (omega (arith, eqb-true (528 + 4 * (m - 1)) r y, k.0, k.1)))
     same (register x) h = sym (ne_eqb x r (λ y. n (sym y ∙ eqb-true _ _ h)))
 
--- any other leads nowhere, but for 02A5h
+-- 02A5h, which is no ADI number's address, leads to Inv St
+pub from_inv_st : (r : ℕ) → r ≡ 0x02A5 → Some (record { 0 = Inv-St }) ≡ row_from r
+unfolding row_from rows first_row first_register address
+from_inv_st r e = simp e
+
+-- any other leads nowhere
 pub from_none : (r : ℕ) (g : Option AdiNumber) → (r ≡ 0x02A5 → ⊥) → g ≡ adi_of r → g ≡ None → None ≡ row_from r
 unfolding row_from first_register
 from_none r g n d e = nothing_passes rows ∙ same_rows (λ (p : Place). false) (λ (p : Place). eqb (first_register p) r) same rows all_fine

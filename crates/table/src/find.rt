@@ -7,25 +7,22 @@ use crate::names::*;
 
 impl ENumber {
     // The row with this E number. Below 20h and from A0h to BFh the numbers lie close together: a table for each place is small, one for all would be
-    // mostly empty.
+    // mostly empty (docs/SPEED.md, "Left as it is on purpose").
     pub fn row(self) -> Option<Row>
         ensures { result ≡ row_of_e self.0 }
     {
         let e = self.0;
-        if e < 0x0020 {
-            return row_below_20h(e);
+        match e {
+            0x0000..=0x001F => row_below_20h(e),
+            0x0020..=0x009F => row_below_a0h(e),
+            0x00A0..=0x00BF => row_below_c0h(e),
+            _ => row_from_c0h(e),
         }
-        if e < 0x00A0 {
-            return row_below_a0h(e);
-        }
-        if e < 0x00C0 {
-            return row_below_c0h(e);
-        }
-        row_from_c0h(e)
     }
 }
 
 // E numbers 0000 to 001F.
+#[tactic(auto, unfolding(crate::specs::Find::row_of_e, crate::specs::Table::rows, crate::specs::Find::first_row))]
 fn row_below_20h(e: u16) -> Option<Row>
     requires { e < 0x0020 }
     ensures { result ≡ row_of_e e }
@@ -48,6 +45,7 @@ fn row_below_20h(e: u16) -> Option<Row>
 }
 
 // E numbers 0020 to 009F.
+#[tactic(auto, unfolding(crate::specs::Find::row_of_e, crate::specs::Table::rows, crate::specs::Find::first_row))]
 fn row_below_a0h(e: u16) -> Option<Row>
     requires { (0x0020 ≤ e) × (e < 0x00A0) }
     ensures { result ≡ row_of_e e }
@@ -62,6 +60,7 @@ fn row_below_a0h(e: u16) -> Option<Row>
 }
 
 // E numbers 00A0 to 00BF.
+#[tactic(auto, unfolding(crate::specs::Find::row_of_e, crate::specs::Table::rows, crate::specs::Find::first_row))]
 fn row_below_c0h(e: u16) -> Option<Row>
     requires { (0x00A0 ≤ e) × (e < 0x00C0) }
     ensures { result ≡ row_of_e e }
@@ -79,6 +78,7 @@ fn row_below_c0h(e: u16) -> Option<Row>
 }
 
 // E numbers from 00C0 on.
+#[tactic(auto, unfolding(crate::specs::Find::row_of_e, crate::specs::Table::rows, crate::specs::Find::first_row))]
 fn row_from_c0h(e: u16) -> Option<Row>
     requires { 0x00C0 ≤ e }
     ensures { result ≡ row_of_e e }
@@ -91,15 +91,15 @@ fn row_from_c0h(e: u16) -> Option<Row>
 }
 
 impl AdiNumber {
-    // The row with this ADI number: rows 301 to 322 stand in the order of their numbers.
+    // The row with this ADI number: rows 301 to 322 stand in the order of their numbers. These are asked for first: as an arm of the match they made a message over RTU
+    // 46 instructions longer.
+    #[tactic(auto, unfolding(crate::specs::Find::row_of_adi, crate::specs::Table::rows, crate::specs::Find::first_row))]
     fn row(self) -> Option<Row>
         ensures { result ≡ row_of_adi self.0 }
     {
-        let n = self.0 as usize;
-        if 301 <= n {
-            if n < 323 {
-                return Some(Row(n - 301));
-            }
+        let n = usize::from(self.0);
+        if matches!(n, 301..=322) {
+            return Some(Row(n - 301));
         }
         match n {
             34 => Some(Row(MODE)),
@@ -117,28 +117,25 @@ impl AdiNumber {
 
 impl Register {
     // The row whose first register this is: by the address rule, or Inv St at 02A5h.
+    #[tactic(auto, using(crate::proofs::Lookup::from_adi, crate::proofs::Lookup::from_inv_st, crate::proofs::Lookup::from_none))]
     fn row(self) -> Option<Row>
         ensures { result ≡ row_from self.0 }
     {
-        let Some(adi) = self.adi() else {
-            if self.0 == 0x02A5 {
-                return Some(Row(INV_ST));
-            }
-            return None;
-        };
-        adi.row()
+        match self.adi() {
+            Some(adi) => adi.row(),
+            None if self.0 == 0x02A5 => Some(Row(INV_ST)),
+            None => None,
+        }
     }
 
     // The row that starts at this register and is `count` registers wide: "start at its first, count its width".
+    #[tactic(auto, using(crate::proofs::Lookup::span_none, crate::proofs::Lookup::span_fits, crate::proofs::Lookup::span_other))]
     pub fn span(self, count: u16) -> Option<Row>
         ensures { result ≡ row_of_span self.0 count }
     {
         let Some(row) = self.row() else {
             return None;
         };
-        if row.width() == count {
-            return Some(row);
-        }
-        None
+        (row.width() == count).then_some(row)
     }
 }

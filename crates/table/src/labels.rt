@@ -6,9 +6,11 @@ ghost use Rattle.table.specs.Address.{adi_of};
 #[derive(Clone, Copy)]
 pub struct ENumber(pub u16);
 
+// A row's number in ADI.
 #[derive(Clone, Copy)]
 pub struct AdiNumber(pub u16);
 
+// The address of a register of Modbus.
 #[derive(Clone, Copy)]
 pub struct Register(pub u16);
 
@@ -18,17 +20,11 @@ pub struct Row(pub usize);
 
 impl Register {
     // The ADI number whose registers begin here: the address rule, 528 + 4 × (ADI − 1), read backwards.
+    #[tactic(auto, using(base::proofs::Tests::tests), unfolding(crate::specs::Address::adi_of))]
     pub(crate) fn adi(self) -> Option<AdiNumber>
         ensures { result ≡ adi_of self.0 }
     {
-        let r = self.0;
-        if r < 528 {
-            return None;
-        }
-        let above = r - 528;
-        if above % 4 != 0 {
-            return None;
-        }
-        Some(AdiNumber(above / 4 + 1))
+        let above = self.0.checked_sub(528)?;
+        (above % 4 == 0).then_some(AdiNumber(above / 4 + 1))
     }
 }

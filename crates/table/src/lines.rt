@@ -6,18 +6,18 @@ use crate::labels::Row;
 use crate::names::*;
 
 // "Run" rows are writable always, "Init" rows only when not running, "read" rows never.
-#[derive(Clone, Copy)]
+#[derive(Clone, Copy, PartialEq, Eq)]
 pub enum Class {
     Init,
     Run,
     OnlyRead,
 }
 
-// What the column Allowed says. `Nothing` is `-`.
+// What the column Allowed says, for the definitions: `allowed::allows` asks the word itself. `Nothing` is `-`.
 #[derive(Clone, Copy)]
 pub enum Allowed {
     Between(i32, i32),
-    // One of up to four numbers; the last stands again where there are fewer.
+    // One of up to four numbers; the last stands again where there are fewer: the definition `these` says so, and an enum in fixed memory has no list.
     OneOf(i32, i32, i32, i32),
     // 0..I-limt−1
     BelowLimt,
@@ -33,8 +33,7 @@ impl Row {
     pub fn width(self) -> u16
         ensures { result ≡ (line_at self.0).registers }
     {
-        let row = self.0;
-        match row {
+        match self.0 {
             SPD_SCL_NUM | SPD_SCL_DEN | I_RMS | OP_TIME => 2,
             P_NOM..=DRIVE_STATUS => 1,
             _ => 0,
@@ -45,8 +44,7 @@ impl Row {
     pub fn class(self) -> Class
         ensures { result ≡ (line_at self.0).class }
     {
-        let row = self.0;
-        match row {
+        match self.0 {
             P_NOM..=I_LIMT | MODE_SETTING => Class::Init,
             ACCEL..=SCMD => Class::Run,
             _ => Class::OnlyRead,

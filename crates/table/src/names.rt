@@ -1,4 +1,6 @@
 // The rows by name: their lines in the table. The paper's Mode and MODE are `MODE_SETTING` and `MODE`.
+//
+// A name is a number and no variant of an enum: it is the row's place in the plant, whose array C lays out, and `allows`, `width`, `class` and `read` promise what they say of numbers past the table too.
 pub const P_NOM: usize = 0;
 
 pub const U_NOM: usize = 1;

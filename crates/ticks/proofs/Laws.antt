@@ -1,7 +1,7 @@
 -- Tenths and ticks, case by case. Assumes nothing.
 use mathlib.Core.Path.{◌≡◌, refl, sym, ap, ◌∙◌}
 use mathlib.Core.List.{List, [], ◌∷◌}
-use Prim.Native.Nat.{ℕ, zero, suc, ◌+◌, ◌-◌, ◌/◌, ◌%◌, ◌≤◌, ◌<◌}
+use Prim.Native.Nat.{ℕ, zero, suc, ◌+◌, ◌-◌, ◌*◌, ◌/◌, ◌%◌, ◌≤◌, ◌<◌}
 use native.Mathlib.Omega.{arith}
 use Rattle.port.specs.Port.{Numbers}
 use Rattle.drive.specs.Plant.{Plant}
@@ -9,17 +9,8 @@ use Rattle.card.specs.State.{Core}
 use Rattle.card.specs.Events.{Ticked, ticked_in}
 use Rattle.card.specs.declared.outcome.Outcome.{Outcome}
 use Rattle.ticks.specs.Ticks.{passed_from, rest, ticks_of, ticking, handed_over, tenths_over, Rising, last_of}
-use Rattle.ticks.specs.declared.Passed.{Passed}
 
 -- ---- the tenths
--- a clock that goes back, and one that goes on
-pub passed_back : (last present : ℕ) → present < last → ◌≡◌ {A = Passed} (record { tenths = 0; last = present }) (passed_from last present)
-unfolding passed_from
-passed_back last present h =
-    let none : (present - last) / 100 ≡ 0 = omega arith in
-    let kept : present - (present - last) % 100 ≡ present = omega arith in
-    simp (none, kept)
-
 -- a clock that does not go back ends no earlier than it began
 rising_last : (later : List ℕ) (present : ℕ) → Rising present later → present ≤ last_of present later
 rising_last [] present r = omega arith
@@ -62,20 +53,33 @@ rest_some : (n : ℕ) → 0 < n → rest n ≡ n ∷ []
 rest_some zero h = absurd (omega arith)
 rest_some (suc n) h = refl
 
--- ---- the loop: what is left to hand over, from the port and the plant that there are now, gives what all gives from the first
-module _ (k : Core) (tenths left : ℕ) (q : Numbers) (p : Plant) (inv : handed_over left (record { port = q; plant = p }) ≡ handed_over tenths k) where
+-- ---- the loop: what is left to hand over after n ticks of 250, from the port and the plant that there are now, gives what all gives from the first
+module _ (k : Core) (tenths n : ℕ) (q : Numbers) (p : Plant) (inv : handed_over (tenths - 250 * n) (record { port = q; plant = p }) ≡ handed_over tenths k) where
   -- a tick of 250 more
-  pub handed_on : (y x : Plant) (o : Outcome) → 250 ≤ left → ◌≡◌ {A = Ticked} (record { core = record { port = y; plant = x }; outcome = o }) (ticked_in 250 (record { port = q; plant = p }))
-      → handed_over (left - 250) (record { port = y; plant = x }) ≡ handed_over tenths k
+  pub handed_on : (y x : Plant) (o : Outcome) → n < tenths / 250 → ◌≡◌ {A = Ticked} (record { core = record { port = y; plant = x }; outcome = o }) (ticked_in 250 (record { port = q; plant = p }))
+      → handed_over (tenths - 250 * (n + 1)) (record { port = y; plant = x }) ≡ handed_over tenths k
   unfolding handed_over
-  handed_on y x o h t = ap (λ (r : Ticked). ticking (ticks_of (left - 250)) r.core) t ∙ sym (ap (λ (l : List ℕ). ticking l (record { port = q; plant = p })) (ticks_more left h)) ∙ inv
+  handed_on y x o l t =
+      let more : 250 ≤ tenths - 250 * n = omega arith in
+      let left : tenths - 250 * (n + 1) ≡ tenths - 250 * n - 250 = omega arith in
+      rw left
+      (ap (λ (r : Ticked). ticking (ticks_of (tenths - 250 * n - 250)) r.core) t
+      ∙ sym (ap (λ (l : List ℕ). ticking l (record { port = q; plant = p })) (ticks_more (tenths - 250 * n) more))
+      ∙ inv)
 
-  -- the rest, which is a tick, or none
-  pub handed_rest : (y x : Plant) (o : Outcome) → left < 250 → 0 < left → ◌≡◌ {A = Ticked} (record { core = record { port = y; plant = x }; outcome = o }) (ticked_in left (record { port = q; plant = p }))
-      → ◌≡◌ {A = Core} (record { port = y; plant = x }) (handed_over tenths k)
-  unfolding handed_over
-  handed_rest y x o h l t = ap (λ (r : Ticked). r.core) t ∙ sym (ap (λ (l : List ℕ). ticking l (record { port = q; plant = p })) (ticks_rest left h ∙ rest_some left l)) ∙ inv
+  module _ (all : tenths / 250 ≤ n) (last : n ≤ tenths / 250) where
+    -- the rest, which is a tick, or none
+    left_rest : ticks_of (tenths - 250 * n) ≡ rest (tenths % 250)
+    left_rest =
+        let left : tenths - 250 * n ≡ tenths % 250 = omega arith in
+        rw left (ticks_rest (tenths % 250) (omega arith))
 
-  pub handed_none : left ≤ 0 → ◌≡◌ {A = Core} (record { port = q; plant = p }) (handed_over tenths k)
-  unfolding handed_over
-  handed_none z = sym (ap (λ (l : List ℕ). ticking l (record { port = q; plant = p })) (ticks_rest left (omega arith) ∙ ap rest (le_zero left z))) ∙ inv
+    pub handed_rest : (y x : Plant) (o : Outcome) → 0 < tenths % 250 → ◌≡◌ {A = Ticked} (record { core = record { port = y; plant = x }; outcome = o }) (ticked_in (tenths % 250) (record { port = q; plant = p }))
+        → ◌≡◌ {A = Core} (record { port = y; plant = x }) (handed_over tenths k)
+    unfolding handed_over
+    handed_rest y x o l t =
+        ap (λ (r : Ticked). r.core) t ∙ sym (ap (λ (l : List ℕ). ticking l (record { port = q; plant = p })) (left_rest ∙ rest_some (tenths % 250) l)) ∙ inv
+
+    pub handed_none : tenths % 250 ≤ 0 → ◌≡◌ {A = Core} (record { port = q; plant = p }) (handed_over tenths k)
+    unfolding handed_over
+    handed_none z = sym (ap (λ (l : List ℕ). ticking l (record { port = q; plant = p })) (left_rest ∙ ap rest (le_zero (tenths % 250) z))) ∙ inv

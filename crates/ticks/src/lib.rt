@@ -25,16 +25,11 @@ pub struct Passed {
 
 // From the last time and the present one, in milliseconds. What is left of a tenth is kept: it counts with what passes next. Of a clock that goes back nothing has
 // passed.
+#[tactic(auto, unfolding(crate::specs::Ticks::passed_from))]
 pub fn time_passed(last: u64, present: u64) -> Passed
     ensures { result ≡ passed_from last present }
 {
-    if present < last {
-        return Passed {
-            tenths: 0,
-            last: present,
-        };
-    }
-    let time = present - last;
+    let time = present.saturating_sub(last);
     Passed {
         tenths: time / TENTH,
         last: present - time % TENTH,
@@ -45,12 +40,11 @@ pub fn time_passed(last: u64, present: u64) -> Passed
 pub fn hand_over(port: &mut Numbers, plant: &mut Plant, tenths: u64)
     ensures { record { port = port.new; plant = plant.new } ≡ handed_over tenths (record { port = port.old; plant = plant.old }) }
 {
-    let mut left = tenths;
-    while left >= LONGEST {
+    for _ in 0..tenths / LONGEST {
         card::tick_in(port, plant, LONGEST as u32);
-        left -= LONGEST;
     }
-    if left > 0 {
-        card::tick_in(port, plant, left as u32);
+    let rest = tenths % LONGEST;
+    if rest > 0 {
+        card::tick_in(port, plant, rest as u32);
     }
 }

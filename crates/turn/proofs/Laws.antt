@@ -1,5 +1,5 @@
 -- A stream call, case by case, for any protocol that comes as a stream. Assumes nothing.
-use mathlib.Core.Path.{◌≡◌, refl, sym, ap, ◌∙◌}
+use mathlib.Core.Path.{◌≡◌, refl, sym, ap}
 use mathlib.Core.Bool.{Bool, true, false, not}
 use mathlib.Core.List.{List, []}
 use Prim.Native.Nat.{ℕ, ◌≤◌, ◌<◌}
@@ -17,7 +17,6 @@ use Rattle.pending.proofs.Scans.{scan_used, scan_uses}
 use Rattle.identity.specs.Identity.{Identity}
 use Rattle.port.specs.Port.{Numbers}
 use Rattle.drive.specs.Plant.{Plant}
-use Rattle.answers.specs.declared.Answer.{Answer}
 use Rattle.service.specs.Serving.{Served}
 use Rattle.card.specs.State.{card_of}
 use Rattle.card.specs.declared.state.Card.{Card}
@@ -87,7 +86,3 @@ module _ (S : Stream) (c : Card) (bytes : List ℕ) (room : ℕ) where
   streamed_short most all =
       pick_both (λ (r : Received). length r.reply ≤ most) (ltb room S.least) (λ e. omega arith)
       (λ e. pick_both (λ (r : Received). length r.reply ≤ most) (scan_from S.feeding c.port.pending 0 bytes).taken (λ k. all (scan_from S.feeding c.port.pending 0 bytes)) (λ k. omega arith))
-
--- an arm of a `match` on the answer
-pub after_at : (q r : Numbers) (answer k : Answer) → answer ≡ k → r ≡ port_after k q → r ≡ port_after answer q
-after_at q r answer k h e = e ∙ ap (λ (a : Answer). port_after a q) (sym h)

@@ -1,4 +1,4 @@
-// What a call on bytes from the line hands back, by any protocol: a `Turn` with the whole card, or a `Turned` where the card's parts are lent.
+// What a call on bytes from the line hands back, by any protocol: a `Turn` with the whole card, or a `Turned` where the card's parts are lent, as C lends them.
 // `short_buffer` and `nothing_taken` are the calls that take no message; `after_message` restarts the time sum once one was served.
 #![tactic(auto)]
 
@@ -11,7 +11,7 @@ use card::{Card, Outcome};
 use pending::Scanned;
 use port::{Numbers, SUM};
 
-// The card, the outcome, how many bytes were used, and the length of the reply, 0 where there is none.
+// The card, the outcome, how many bytes were used, and the length of the reply, 0 where there is none, as C is told it.
 #[derive(Clone, Copy)]
 pub struct Turn {
     pub card: Card,
@@ -20,7 +20,8 @@ pub struct Turn {
     pub len: usize,
 }
 
-// A turn of a card whose parts are lent: how many bytes are pending, the outcome, how many bytes were used, and the length of the reply.
+// A turn of a card whose parts are lent: how many bytes are pending, the outcome, how many bytes were used, and the length of the reply. Two structs and no generic one:
+// `turn_of` names a card there, `turn_in` a count here.
 #[derive(Clone, Copy)]
 pub struct Turned {
     pub pending: usize,
@@ -57,19 +58,7 @@ pub fn nothing_taken(scan: Scanned) -> Turned
 pub fn after_message(port: &mut Numbers, answer: Answer)
     ensures { port.new ≡ port_after answer port.old }
 {
-    match answer {
-        Answer::NotOurs => {}
-        Answer::Told(_, _) => {
-            port[SUM] = 0;
-        }
-        Answer::Written(_) => {
-            port[SUM] = 0;
-        }
-        Answer::Identified(_) => {
-            port[SUM] = 0;
-        }
-        Answer::Refused(_) => {
-            port[SUM] = 0;
-        }
+    if !matches!(answer, Answer::NotOurs) {
+        port[SUM] = 0;
     }
 }

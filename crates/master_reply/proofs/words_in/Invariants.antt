@@ -1,10 +1,6 @@
 -- `master_reply::words_in` meets its contract. The invariant: stores of all words left would give the whole. Assumes nothing.
-use Prim.Native.Nat.{◌-◌}
 use Rattle.master_reply.proofs.Units.{Taking}
 use Rattle.master_reply.proofs.words_in.Given as goal
 
 abbrev pub invariant-loop-i : goal.invariant-loop-i
 invariant-loop-i l = Taking l.unit l.count l.words l.i
-
-abbrev pub decreases-loop-i : goal.decreases-loop-i
-decreases-loop-i l = l.count - l.i

@@ -4,9 +4,9 @@ use Rattle.base.proofs.Tests.{tests}
 use Rattle.master_rtu.proofs.Replies.{heard_none, heard_held}
 use Rattle.master_rtu.proofs.read_reply.Goals as goal
 
-pub returns-then-not-frame_holds : goal.returns-then-not-frame_holds
-unfolding front
-returns-then-not-frame_holds c = search (tests, heard_none)
+pub returns-then-frame_holds : goal.returns-then-frame_holds
+returns-then-frame_holds c = search (tests, heard_held)
 
-pub returns : goal.returns
-returns c = search (tests, heard_held)
+pub returns-else-frame_holds : goal.returns-else-frame_holds
+unfolding front
+returns-else-frame_holds c = search (tests, heard_none)

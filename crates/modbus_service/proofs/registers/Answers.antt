@@ -5,5 +5,5 @@ use Rattle.modbus_service.proofs.registers.Goals as goal
 pub returns-then-width-eq2 : goal.returns-then-width-eq2
 returns-then-width-eq2 c = search told_long
 
-pub returns : goal.returns
-returns c = search told_word
+pub returns-else-width-eq2 : goal.returns-else-width-eq2
+returns-else-width-eq2 c = search told_word

@@ -4,13 +4,13 @@ use Rattle.rtu.proofs.Frames.{told_within, data_told}
 use Rattle.rtu.proofs.register_data.Goals as goal
 
 pub slice_bounds-result-count : goal.slice_bounds-result-count
-slice_bounds-result-count c = (told_within _ _ c.register_span-span.ensures).0
+slice_bounds-result-count c = (told_within _ _ c.register_span-from.ensures).0
 
 pub slice_bounds-result-start : goal.slice_bounds-result-start
-slice_bounds-result-start c = (told_within _ _ c.register_span-span.ensures).0
+slice_bounds-result-start c = (told_within _ _ c.register_span-from.ensures).0
 
 pub slice_bounds-result-end : goal.slice_bounds-result-end
-slice_bounds-result-end c = (told_within _ _ c.register_span-span.ensures).1
+slice_bounds-result-end c = (told_within _ _ c.register_span-from.ensures).1
 
 pub returns : goal.returns
-returns c = data_told _ _ c.register_span-span.ensures
+returns c = data_told _ _ c.register_span-from.ensures

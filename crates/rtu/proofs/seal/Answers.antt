@@ -1,15 +1,6 @@
 -- `rtu::seal` meets its contract: the CRC is that of the body, and its two bytes go behind it, low byte first. Assumes nothing.
-use Rattle.rtu.proofs.Replies.{end_within, low_within, high_within, sealed}
+use Rattle.rtu.proofs.Replies.{sealed}
 use Rattle.rtu.proofs.seal.Goals as goal
 
-pub slice_bounds-crc-end : goal.slice_bounds-crc-end
-slice_bounds-crc-end c = search end_within
-
-pub bounds-reply-end : goal.bounds-reply-end
-bounds-reply-end c = search low_within
-
-pub bounds-reply-end-2 : goal.bounds-reply-end-2
-bounds-reply-end-2 c = search high_within
-
-pub returns : goal.returns
-returns c = search sealed
+pub returns-clause-lent : goal.returns-clause-lent
+returns-clause-lent c = sealed _ _ c.requires _ _ c.crc.ensures c.crc.type_inv c.to_le_bytes.ensures

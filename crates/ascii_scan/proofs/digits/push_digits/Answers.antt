@@ -1,10 +1,14 @@
--- `ascii_scan::push_digits` meets its contract, which `push_run` meets of the bytes that have room. Assumes nothing.
-use Rattle.std.proofs.Common.{arith, rules}
-use Rattle.ascii_scan.proofs.Running.{none_open, none_same, cut_within, cut_few, cut_same}
+-- `ascii_scan::push_digits` meets its contract. The invariant: scanning the bytes left gives what scanning all that have room does, and CR has not come.
+-- Assumes nothing.
+use Rattle.std.proofs.Common.{rules}
+use Rattle.ascii_scan.proofs.Running.{run_again, run_cut, run_all}
 use Rattle.ascii_scan.proofs.digits.push_digits.Goals as goal
 
-pub returns-then-n-ge509 : goal.returns-then-n-ge509
-returns-then-n-ge509 c = record { within = omega arith; few = omega arith; opened = search none_open; same = search none_same }
+pub returns-then-not-is_ascii_hexdigit-clause-same : goal.returns-then-not-is_ascii_hexdigit-clause-same
+returns-then-not-is_ascii_hexdigit-clause-same c = search (run_cut, rules)
 
-pub returns : goal.returns
-returns c = record { within = search cut_within; few = search (cut_few, rules); opened = search rules; same = search cut_same }
+pub loop-i-preserved : goal.loop-i-preserved
+loop-i-preserved c = search (run_again, rules)
+
+pub returns-clause-same : goal.returns-clause-same
+returns-clause-same c = search (run_all, rules)

@@ -1,11 +1,11 @@
--- `bench_words::size_of` meets its contract: with the digits left the size is the whole's. The measure is what is left of them. Assumes nothing.
-use Prim.Native.Nat.{◌-◌}
-use lib.ListN.{length}
-use Rattle.bench_words.proofs.Sizes.{Sizing}
+-- `bench_words::size_of` meets its contract: with the digits left the size is the whole's. Assumes nothing.
+use Rattle.std.proofs.Common.{◌≡◌, ◌≤◌, drop}
+use Rattle.bench_words.specs.Numbers.{capped_from, size_of}
 use Rattle.bench_words.proofs.numbers.size_of.Given as goal
 
-abbrev pub invariant-loop-i : goal.invariant-loop-i
-invariant-loop-i l = Sizing l.characters l.size l.i
-
-abbrev pub decreases-loop-i : goal.decreases-loop-i
-decreases-loop-i l = length l.characters - l.i
+abbrev pub invariant-loop-character : goal.invariant-loop-character
+invariant-loop-character l =
+    record {
+      small : l.size ≤ 0x100000000;
+      left : capped_from l.size (drop l.character-index l.characters) ≡ size_of l.characters;
+    }

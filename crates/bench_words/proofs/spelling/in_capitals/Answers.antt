@@ -1,16 +1,12 @@
--- `bench_words::in_capitals` meets its contract. The invariant: what the rest of the characters tells is what all of them tell. Assumes nothing.
-use mathlib.Core.Path.{refl}
-use Rattle.bench_words.proofs.Hexes.{capitals_again, capitals_small, capitals_all}
+-- `bench_words::in_capitals` meets its contract: each character is its own capital. Assumes nothing.
+use Rattle.std.proofs.Common.{◌∙◌, eqb, rules, tests}
+use Rattle.std.proofs.lemmas.Iterator.{YieldsList-from_slice}
+use Rattle.std.proofs.lemmas.Iterator.Search.{all_from_yields_List}
+use Rattle.hex_pairs.specs.Hex.{capital_of}
+use Rattle.bench_words.proofs.Hexes.{all_capitals}
 use Rattle.bench_words.proofs.spelling.in_capitals.Goals as goal
 
-pub loop-i-init : goal.loop-i-init
-loop-i-init c = refl
-
-pub returns-then-capital_of-word : goal.returns-then-capital_of-word
-returns-then-capital_of-word c = search capitals_small
-
-pub loop-i-preserved : goal.loop-i-preserved
-loop-i-preserved c = search capitals_again
-
 pub returns : goal.returns
-returns c = search capitals_all
+returns c =
+    all_from_yields_List (λ x. eqb (capital_of x) x) c.all.new.self _ c.all.result c.all.ensures.ran (YieldsList-from_slice c.args.word.now cc) (λ x b q k. search (rules, tests))
+    ∙ all_capitals c.args.word.now

@@ -1,20 +1,26 @@
--- `bench_words::count` meets its contract: with the characters left the count is the line's. The words passed are at most one more than the
--- characters passed, so their number does not wrap; the measure is what is left of the line. Assumes nothing.
-use Rattle.bench_words.proofs.Places.{count_starts, count_twice, count_space, count_other, count_ends_space, count_ends}
+-- `bench_words::count` meets its contract: where no part between the spaces is empty, there are as many as words. Assumes nothing.
+use Rattle.std.proofs.Common.{rules, tests}
+use Rattle.std.proofs.lemmas.Iterator.Splits.{YieldsList-from_slice_split}
+use Rattle.std.proofs.lemmas.Iterator.Consumers.{count_from_yields_List}
+use Rattle.std.proofs.lemmas.Iterator.Search.{any_from_yields_List}
+use Rattle.bench_words.proofs.Places.{space, empty, some_empty, none_empty}
 use Rattle.bench_words.proofs.words.count.Goals as goal
-use Rattle.bench_words.proofs.words.count.Goals.{then-character-eq32+else-before-eq32, else-character-eq32}
 
-pub loop-i-init : goal.loop-i-init
-loop-i-init c = count_starts _
-
-pub returns-then-before-eq32 : goal.returns-then-before-eq32
-returns-then-before-eq32 c = search count_twice
-
-pub loop-i-preserved : goal.loop-i-preserved
-loop-i-preserved c = elim c.if-character-eq32.branch [ then-character-eq32+else-before-eq32 w ↦ search count_space | else-character-eq32 w ↦ search count_other ]
-
-pub returns-then-before-eq32-2 : goal.returns-then-before-eq32-2
-returns-then-before-eq32-2 c = search count_ends_space
+pub returns-then-any : goal.returns-then-any
+returns-then-any c =
+    let any =
+    any_from_yields_List empty c.any.new.self _ c.any.result c.any.ensures.ran
+    (YieldsList-from_slice_split _ space c.args.line.now c.split.ensures.rest c.split.ensures.done c.split.ensures.closure (λ x r q k. search (rules, tests)))
+    (λ x b q k. search (rules, tests)) in
+    some_empty c.args.line.now c.any.result any c.if-any.true
 
 pub returns : goal.returns
-returns c = search count_ends
+returns c =
+    let any =
+    any_from_yields_List empty c.any.new.self _ c.any.result c.any.ensures.ran
+    (YieldsList-from_slice_split _ space c.args.line.now c.split.ensures.rest c.split.ensures.done c.split.ensures.closure (λ x r q k. search (rules, tests)))
+    (λ x b q k. search (rules, tests)) in
+    let number =
+    count_from_yields_List _ c.count.result c.count.ensures.ran
+    (YieldsList-from_slice_split _ space c.args.line.now c.split-2.ensures.rest c.split-2.ensures.done c.split-2.ensures.closure (λ x r q k. search (rules, tests))) in
+    none_empty c.args.line.now c.any.result any c.count.result c.if-any.false number

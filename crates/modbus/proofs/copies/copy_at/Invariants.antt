@@ -1,11 +1,6 @@
 -- `modbus::copies::copy_at` meets its contract. The invariant: stores of all bytes left would give the whole. Assumes nothing.
-use Prim.Native.Nat.{◌-◌}
-use lib.ListN.{length}
 use Rattle.modbus.proofs.Copying.{Copying}
 use Rattle.modbus.proofs.copies.copy_at.Given as goal
 
 abbrev pub invariant-loop-i : goal.invariant-loop-i
 invariant-loop-i l = Copying l.bytes l.initial.out l.out l.at l.i
-
-abbrev pub decreases-loop-i : goal.decreases-loop-i
-decreases-loop-i l = length l.bytes - l.i

@@ -1,26 +1,11 @@
 -- `session_loop::write_line` meets its contract: two stores, then `-` or the digits in the part after them, then the line's end. Assumes nothing.
 use native.Mathlib.Omega.{arith}
-use lib.ListN.{length-set}
+use Rattle.std.proofs.lemmas.Bool.Decides.{nat_tests}
 use Rattle.session_loop.proofs.Lines.{line_none, digits_length, ended_length, line_some}
 use Rattle.session_loop.proofs.line.write_line.Goals as goal
 
-pub bounds-text-1 : goal.bounds-text-1
-bounds-text-1 c = simp length-set (omega arith)
-
-pub bounds-text-2 : goal.bounds-text-2
-bounds-text-2 c = simp length-set (omega arith)
-
-pub bounds-text-3 : goal.bounds-text-3
-bounds-text-3 c = simp length-set (omega arith)
-
-pub returns-then-reply-eq0 : goal.returns-then-reply-eq0
-returns-then-reply-eq0 c = let all = line_none _ _ _ c.requires c.if-reply-eq0.true in record { count = all.0; lent = all.1 }
-
-pub slice_bounds-encode-count : goal.slice_bounds-encode-count
-slice_bounds-encode-count c = simp length-set (omega arith)
-
-pub slice_bounds-encode-start : goal.slice_bounds-encode-start
-slice_bounds-encode-start c = simp length-set (omega arith)
+pub returns-then-is_empty : goal.returns-then-is_empty
+returns-then-is_empty c = let all = line_none _ _ _ c.requires (grind (arith, nat_tests)) in record { count = all.0; lent = all.1 }
 
 pub bounds-text-end : goal.bounds-text-end
 bounds-text-end c =
@@ -33,4 +18,4 @@ shape_of-text c =
     ended_length a.number a.reply.now a.text.now c.requires _ _ _ c.encode.ensures
 
 pub returns : goal.returns
-returns c = let all = line_some _ _ _ c.requires _ c.if-reply-eq0.false c.encode.ensures in record { count = all.0; lent = all.1 }
+returns c = let all = line_some _ _ _ c.requires _ (λ h. grind (arith, nat_tests)) c.encode.ensures in record { count = all.0; lent = all.1 }
