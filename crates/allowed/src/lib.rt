@@ -20,7 +20,8 @@ pub struct Bounds {
     pub mode: u32,
 }
 
-// Whether the row allows the number that a word stands for: the column Allowed, a line for a row. A word that is wider than the row stands for none.
+// Whether the row allows the number that a word stands for: the column Allowed, a line for a row. A word that is wider than the row stands for none. (The arms of rows that allow the same, joined,
+// cost a write 6 instructions more.)
 #[tactic(auto, using(crate::proofs::Words::row_range, crate::proofs::Words::row_wide, crate::proofs::Words::row_list, crate::proofs::Words::row_about, crate::proofs::Words::row_limt, crate::proofs::Words::row_magn, crate::proofs::Words::row_setpoint, crate::proofs::Words::past_scmd), unfolding(table::specs::Table::line_at, table::specs::Table::rows, crate::specs::Allowed::twos))]
 pub fn allows(row: Row, word: u32, by: Bounds) -> bool
     ensures { result ≡ allowed_at row.0 by word }
@@ -33,9 +34,11 @@ pub fn allows(row: Row, word: u32, by: Bounds) -> bool
         COS_PHI => between(1, 100, word),
         I_MAGN => below_limt(by.limt, word),
         I_LIMT => above_magn(by.magn, 3000, word),
-        ACCEL | RETARD => between(2, 5000, word),
+        ACCEL => between(2, 5000, word),
+        RETARD => between(2, 5000, word),
         MODE_SETTING => between(0, 3, word),
-        FR_MIN | FR_MAX => between(0, 1500, word),
+        FR_MIN => between(0, 1500, word),
+        FR_MAX => between(0, 1500, word),
         R_FIX1 => about_0(20000, word),
         REG_AMP => one_of(&[1, MINUS_1], word),
         SI_BAUD => one_of(&[16, 32, 64, 128], word),
@@ -43,7 +46,8 @@ pub fn allows(row: Row, word: u32, by: Bounds) -> bool
         SI_ADR => between(1, 94, word),
         SIO_TOT => between(0, 250, word),
         MB_ADR => between(1, 247, word),
-        SPD_SCL_NUM | SPD_SCL_DEN => between(1, 1000000, word),
+        SPD_SCL_NUM => between(1, 1000000, word),
+        SPD_SCL_DEN => between(1, 1000000, word),
         SETPOINT => setpoint(by.mode, word),
         MODE => one_of(&[1, 2, 3], word),
         SCMD => one_of(&[0, 129, 257], word),

@@ -71,7 +71,7 @@ cases =
     ∷ ((started, 1, 0x03 ∷ 0x02 ∷ 0x58 ∷ 0x00 ∷ 0x02 ∷ []), (2, 0, Some (Exception 0x03 2)))
     -- another address
     ∷ ((started, 2, 0x2C ∷ []), (1, 0, None))
-    -- 43, type 14: code 01 from object 00h; code 02 from 05h; from 07h, which lies outside; code 04 of 04h, and of 07h. None is acknowledged
+    -- 43, type 14: code 01 from object 00h; code 02 from 05h; from 07h, which lies outside; code 04 of 04h, and of 07h. Nothing is acknowledged
     ∷ ((over, 1, 0x2B ∷ 0x0E ∷ 0x01 ∷ 0x00 ∷ []), (0, 0x20, Some (Identity (Objects 1 0 2))))
     ∷ ((started, 1, 0x2B ∷ 0x0E ∷ 0x02 ∷ 0x05 ∷ []), (0, 0, Some (Identity (Objects 2 5 6))))
     ∷ ((started, 1, 0x2B ∷ 0x0E ∷ 0x02 ∷ 0x07 ∷ []), (0, 0, Some (Identity (Objects 2 0 6))))
