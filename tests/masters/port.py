@@ -50,7 +50,10 @@ class Port:
         assert self.line.poll() is None, "line ended at once"
         card = os.path.realpath(self.card)
         folder = "/proc/%d/fd" % self.line.pid
-        return any(os.path.realpath(os.path.join(folder, fd)) == card for fd in os.listdir(folder))
+        try:
+            return any(os.path.realpath(os.path.join(folder, fd)) == card for fd in os.listdir(folder))
+        except FileNotFoundError:
+            return False  # one was closed between the list and the look at it, as all are that the program does not inherit
 
     def put(self, data):
         """Puts bytes on the line from the master's end."""
