@@ -53,7 +53,7 @@ class Port:
         try:
             return any(os.path.realpath(os.path.join(folder, fd)) == card for fd in os.listdir(folder))
         except FileNotFoundError:
-            return False  # one was closed between the list and the look at it, as all are that the program does not inherit
+            return False  # one was closed between the list and the look at it, as this process's own are where the program begins
 
     def put(self, data):
         """Puts bytes on the line from the master's end."""
